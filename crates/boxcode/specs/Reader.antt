@@ -1,0 +1,50 @@
+-- What the reader makes of a sheet (document 01, "Turned back" and demand 3), by trial and with no algorithm.
+--
+--   mendable     some burst, possibly empty, brings both sums to 0
+--   change       the cells that are turned over: the first burst that does
+--   mended       the sheet after that
+--   Report       how many cells were turned over, and the smallest rectangle that holds them; five zeros where none were
+--   reportOf     the report of a set of cells
+use Prim.Native.Nat.{ℕ, zero, suc, _+_, _-_}
+use mathlib.Core.Bool.{Bool}
+use Rattle.boxcode.specs.Search.{anyBelow, countBelow, firstOf, pastOf}
+use Rattle.boxcode.specs.Code.{Code}
+use Rattle.boxcode.specs.Syndrome.{Cells, flip, rowSyndrome, columnSyndrome}
+use Rattle.boxcode.specs.Burst.{hasBurst, burstFor}
+
+unfoldable pub mendable : Code → Cells → Bool
+mendable c s = hasBurst c (rowSyndrome c s) (columnSyndrome c s)
+
+unfoldable pub change : Code → Cells → Cells
+change c s = burstFor c (rowSyndrome c s) (columnSyndrome c s)
+
+unfoldable pub mended : Code → Cells → Cells
+mended c s = flip s (change c s)
+
+pub record Report : Type 0 where
+  pub cells : ℕ
+  pub top : ℕ
+  pub left : ℕ
+  pub height : ℕ
+  pub width : ℕ
+
+-- the number of cells of a set on the first n rows
+unfoldable pub cellsIn : ℕ → ℕ → Cells → ℕ
+cellsIn zero m e = 0
+cellsIn (suc n) m e = cellsIn n m e + countBelow m (e n)
+
+-- row i, and column j, has a cell of the set
+unfoldable pub inRow : Code → Cells → ℕ → Bool
+inRow c e i = anyBelow (c .n2) (e i)
+
+unfoldable pub inColumn : Code → Cells → ℕ → Bool
+inColumn c e j = anyBelow (c .n1) (λ i. e i j)
+
+unfoldable pub reportOf : Code → Cells → Report
+reportOf c e = record
+    { cells = cellsIn (c .n1) (c .n2) e
+    ; top = firstOf (c .n1) (inRow c e)
+    ; left = firstOf (c .n2) (inColumn c e)
+    ; height = pastOf (c .n1) (inRow c e) - firstOf (c .n1) (inRow c e)
+    ; width = pastOf (c .n2) (inColumn c e) - firstOf (c .n2) (inColumn c e)
+    }

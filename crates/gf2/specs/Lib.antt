@@ -1,0 +1,4 @@
+-- The definitions of linear algebra over the field of two elements that contracts and theorems cite.
+pub mod Xor
+pub mod Sum
+pub mod Independence
