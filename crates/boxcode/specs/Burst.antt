@@ -11,7 +11,7 @@ use Prim.Native.Nat.{ℕ, _+_, _-_, _*_, _/_, _%_, _^_, _≤_, _<_}
 use mathlib.Core.Path.{_≡_}
 use mathlib.Core.Bool.{Bool, true, _&&_}
 use lib.Dec.{eqb, ltb}
-use Rattle.boxcode.specs.Search.{bit, within, least}
+use Rattle.finite.specs.Search.{bit, within, least}
 use Rattle.boxcode.specs.Code.{Code}
 use Rattle.boxcode.specs.Syndrome.{Cells, Belongs, flip, rowSyndrome, columnSyndrome}
 

@@ -12,7 +12,7 @@
 use Prim.Native.Nat.{ℕ, _+_, _-_, _*_, _/_, _%_, _^_}
 use mathlib.Core.Bool.{Bool, cond, not, _&&_}
 use lib.Dec.{eqb}
-use Rattle.boxcode.specs.Search.{bit, anyBelow, countBelow, least}
+use Rattle.finite.specs.Search.{bit, anyBelow, countBelow, least}
 use Rattle.boxcode.specs.Code.{Code, cellNumber}
 use Rattle.boxcode.specs.Syndrome.{Cells, rowSyndrome, columnSyndrome}
 

@@ -10,7 +10,7 @@ use mathlib.Core.Bool.{Bool, true, _||_, not}
 use lib.Dec.{eqb}
 use Rattle.gf2.specs.Xor.{_⊕_}
 use Rattle.gf2.specs.Independence.{Independent, free}
-use Rattle.boxcode.specs.Search.{within, place}
+use Rattle.finite.specs.Search.{within, place}
 use Rattle.boxcode.specs.Code.{Code, checkJoint}
 
 -- position k of the row table belongs to a row of the window at i or of the window at i'

@@ -7,7 +7,7 @@
 --   reportOf     the report of a set of cells
 use Prim.Native.Nat.{ℕ, zero, suc, _+_, _-_}
 use mathlib.Core.Bool.{Bool}
-use Rattle.boxcode.specs.Search.{anyBelow, countBelow, firstOf, pastOf}
+use Rattle.finite.specs.Search.{anyBelow, countBelow, firstOf, pastOf}
 use Rattle.boxcode.specs.Code.{Code}
 use Rattle.boxcode.specs.Syndrome.{Cells, flip, rowSyndrome, columnSyndrome}
 use Rattle.boxcode.specs.Burst.{hasBurst, burstFor}
@@ -41,10 +41,10 @@ unfoldable pub inColumn : Code → Cells → ℕ → Bool
 inColumn c e j = anyBelow (c .n1) (λ i. e i j)
 
 unfoldable pub reportOf : Code → Cells → Report
-reportOf c e = record
-    { cells = cellsIn (c .n1) (c .n2) e
-    ; top = firstOf (c .n1) (inRow c e)
-    ; left = firstOf (c .n2) (inColumn c e)
-    ; height = pastOf (c .n1) (inRow c e) - firstOf (c .n1) (inRow c e)
-    ; width = pastOf (c .n2) (inColumn c e) - firstOf (c .n2) (inColumn c e)
-    }
+reportOf c e = record {
+  cells = cellsIn (c .n1) (c .n2) e;
+  top = firstOf (c .n1) (inRow c e);
+  left = firstOf (c .n2) (inColumn c e);
+  height = pastOf (c .n1) (inRow c e) - firstOf (c .n1) (inRow c e);
+  width = pastOf (c .n2) (inColumn c e) - firstOf (c .n2) (inColumn c e);
+}

@@ -66,14 +66,14 @@ assoc : (a b c : ℕ) → bitXor (bitXor a b) c ≡ bitXor a (bitXor b c)
 assoc a =
     bin-ind (λ (n : ℕ). (b c : ℕ) → bitXor (bitXor n b) c ≡ bitXor n (bitXor b c)) (λ b c. refl)
     (λ n ih b c.
-      bits.xor-step (bitXor n b) c
-      ∙ ap₂ (λ (x y : ℕ). x * 2 + y)
-          (ap (λ (x : ℕ). bitXor x (c / 2)) (bits.xor-shr n b 1) ∙ ih (b / 2) (c / 2)
-          ∙ ap (λ (x : ℕ). bitXor (n / 2) x) (sym (bits.xor-shr b c 1)))
-          (ap (λ (x : ℕ). differ x (c % 2)) (digit n b)
-          ∙ differ-assoc (n % 2) (b % 2) (c % 2) (mod-lt n (zero-lt-suc 1)) (mod-lt b (zero-lt-suc 1)) (mod-lt c (zero-lt-suc 1))
-          ∙ ap (λ (x : ℕ). differ (n % 2) x) (sym (digit b c)))
-      ∙ sym (bits.xor-step n (bitXor b c)))
+    bits.xor-step (bitXor n b) c
+    ∙ ap₂ (λ (x y : ℕ). x * 2 + y)
+    (ap (λ (x : ℕ). bitXor x (c / 2)) (bits.xor-shr n b 1) ∙ ih (b / 2) (c / 2)
+    ∙ ap (λ (x : ℕ). bitXor (n / 2) x) (sym (bits.xor-shr b c 1)))
+    (ap (λ (x : ℕ). differ x (c % 2)) (digit n b)
+    ∙ differ-assoc (n % 2) (b % 2) (c % 2) (mod-lt n (zero-lt-suc 1)) (mod-lt b (zero-lt-suc 1)) (mod-lt c (zero-lt-suc 1))
+    ∙ ap (λ (x : ℕ). differ (n % 2) x) (sym (digit b c)))
+    ∙ sym (bits.xor-step n (bitXor b c)))
     a
 
 pub xor-assoc : (a b c : ℕ) → (a ⊕ b) ⊕ c ≡ a ⊕ (b ⊕ c)

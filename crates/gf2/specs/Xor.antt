@@ -7,7 +7,6 @@ use mathlib.Core.Bool.{Bool, true, false}
 use lib.Bits.{bitXor}
 
 infixl 60 _⊕_
-
 -- the exclusive-or of two numbers, digit by digit; shut, so that laws and not digits are used
 unfoldable pub _⊕_ : ℕ → ℕ → ℕ
 a ⊕ b = bitXor a b

@@ -1,0 +1,3 @@
+-- The laws of truth values and of the definitions of specs/.
+pub mod Truth
+pub mod Search

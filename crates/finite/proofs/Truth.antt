@@ -1,0 +1,110 @@
+-- Small laws of truth values:
+--
+--   and-left, and-right, and-both   a conjunction is true exactly where both parts are
+--   or-cases, or-left, or-right     a disjunction is true exactly where one part is
+--   or-false                        and false where both are
+--   same-truth                      two values are equal if each is true where the other is
+--   true-or-false                   every value is one or the other, with the equation
+--   clash                           no value is both
+--   xor-equal, xor-none, xor-self, xor-back   differences of truth values
+--   within-from, within-to, in-within         the numbers of a run
+--
+-- Assumes nothing.
+use mathlib.Core.Path.{_≡_, refl, sym, ap, _∙_}
+use mathlib.Core.Bool.{Bool, true, false, _&&_, _||_, not, xor, true≢false}
+use Prim.Native.Nat.{ℕ, _+_, _≤_, _<_}
+use lib.Dec.{leb, ltb}
+use borrow.Author.Tests.{leb-true, ltb-true, le-leb, lt-ltb}
+use Rattle.finite.specs.Search.{within}
+
+-- a truth value, with its equation, to split on
+pub data Truth (b : Bool) : Type 0 where
+  is-true : b ≡ true → Truth b
+  is-false : b ≡ false → Truth b
+
+pub true-or-false : (b : Bool) → Truth b
+true-or-false true = is-true refl
+true-or-false false = is-false refl
+
+pub clash {ℓ} : {A : Type ℓ} {b : Bool} → b ≡ true → b ≡ false → A
+clash p q = absurd (true≢false (sym p ∙ q))
+
+pub and-left : (a b : Bool) → (a && b) ≡ true → a ≡ true
+and-left true b e = refl
+and-left false b e = e
+
+pub and-right : (a b : Bool) → (a && b) ≡ true → b ≡ true
+and-right true b e = e
+and-right false b e = clash e refl
+
+pub and-both : (a b : Bool) → a ≡ true → b ≡ true → (a && b) ≡ true
+and-both true b p q = q
+and-both false b p q = p
+
+pub or-left : (a b : Bool) → a ≡ true → (a || b) ≡ true
+or-left true b p = refl
+or-left false b p = clash p refl
+
+pub or-right : (a b : Bool) → b ≡ true → (a || b) ≡ true
+or-right true b p = refl
+or-right false b p = p
+
+pub or-cases {ℓ} : {A : Type ℓ} (a b : Bool) → (a || b) ≡ true → (a ≡ true → A) → (b ≡ true → A) → A
+or-cases true b e f g = f refl
+or-cases false b e f g = g e
+
+-- a disjunction that is false: both parts are
+pub or-false : (a b : Bool) → (a || b) ≡ false → (a ≡ false) × (b ≡ false)
+or-false true b e = clash refl e
+or-false false b e = (refl, e)
+
+pub not-true : (a : Bool) → (a ≡ true → ⊥) → a ≡ false
+not-true true h = absurd (h refl)
+not-true false h = refl
+
+pub same-truth : (a b : Bool) → (a ≡ true → b ≡ true) → (b ≡ true → a ≡ true) → a ≡ b
+same-truth true b f g = sym (f refl)
+same-truth false true f g = g refl
+same-truth false false f g = refl
+
+pub xor-equal : (a b : Bool) → xor a b ≡ false → a ≡ b
+unfolding xor
+xor-equal true true e = refl
+xor-equal true false e = e
+xor-equal false true e = sym e
+xor-equal false false e = refl
+
+pub xor-none : (a : Bool) → xor a false ≡ a
+unfolding xor
+xor-none true = refl
+xor-none false = refl
+
+pub xor-self : (a : Bool) → xor a a ≡ false
+unfolding xor
+xor-self true = refl
+xor-self false = refl
+
+pub xor-back : (a b : Bool) → xor (xor a b) b ≡ a
+unfolding xor
+xor-back true true = refl
+xor-back true false = refl
+xor-back false true = refl
+xor-back false false = refl
+
+pub xor-cases {ℓ} : {A : Type ℓ} (a b : Bool) → xor a b ≡ true → (a ≡ true → A) → (b ≡ true → A) → A
+unfolding xor
+xor-cases true b e f g = f refl
+xor-cases false true e f g = g refl
+xor-cases false false e f g = clash e refl
+
+pub within-from : (a m x : ℕ) → within a m x ≡ true → a ≤ x
+unfolding within
+within-from a m x e = leb-true a x (and-left (leb a x) (ltb x (a + m)) e)
+
+pub within-to : (a m x : ℕ) → within a m x ≡ true → x < a + m
+unfolding within
+within-to a m x e = ltb-true x (a + m) (and-right (leb a x) (ltb x (a + m)) e)
+
+pub in-within : (a m x : ℕ) → a ≤ x → x < a + m → within a m x ≡ true
+unfolding within
+in-within a m x f t = and-both (leb a x) (ltb x (a + m)) (le-leb a x f) (lt-ltb x (a + m) t)

@@ -1,0 +1,2 @@
+-- Searches and counts over the numbers below a bound.
+pub mod Search

@@ -1,0 +1,2 @@
+-- What stands in the bytes of a plan and of a sheet.
+pub mod Number

@@ -1,0 +1,85 @@
+-- From the checks of the header to the bounds that every later step uses.
+--
+--   small     where checks 2 to 4 pass, the header's numbers are in range
+--   framed    where checks 1 to 5 pass, the plan is framed
+--
+-- Assumes nothing.
+use mathlib.Core.Path.{_≡_, refl, sym, _∙_}
+use mathlib.Core.Bool.{Bool, true, false, not, _||_}
+use mathlib.Core.List.{List}
+use Prim.Native.Nat.{ℕ, _+_, _*_, _≤_, _<_}
+use native.Mathlib.Nat.{mul-le-mul}
+use native.Mathlib.Omega.{arith}
+use borrow.Author.Tests.{ltb-false, eqb-false, eqb-true, not-false}
+use lib.Dec.{eqb, ltb}
+use lib.ListN.{length}
+use Rattle.finite.proofs.Truth.{or-false}
+use Rattle.plan.specs.declared.header.Header.{Header}
+use Rattle.plan.specs.Verdict.{verdictIf, refusal}
+use Rattle.plan.specs.Header.{headerLength, headerOf, Small, Framed, columnsStart, checksStart, planLength}
+use Rattle.plan.specs.Form.{badBurst, badSheet, badWidths, badOffsets, fieldsVerdict, headerVerdict}
+use Rattle.plan.proofs.Sequence.{else-zero, if-zero}
+
+-- four tests that all fail
+four : (a b c d : Bool) → (a || b || c || d) ≡ false → (a ≡ false) × (b ≡ false) × (c ≡ false) × (d ≡ false)
+four a b c d e =
+    let x = or-false (a || b || c) d e in
+    let y = or-false (a || b) c (x .0) in
+    let z = or-false a b (y .0) in
+    (z .0, z .1, y .1, x .1)
+
+pub small : (h : Header) → badBurst h ≡ false → badSheet h ≡ false → badWidths h ≡ false → Small h
+unfolding badBurst badSheet badWidths
+small h p q r =
+    let burst = four (eqb (h .b1) 0) (ltb 4 (h .b1)) (eqb (h .b2) 0) (ltb 4 (h .b2)) p in
+    let sheet = four (ltb (h .n1) (h .b1)) (ltb 512 (h .n1)) (ltb (h .n2) (h .b2)) (ltb 698 (h .n2)) q in
+    let widths = four (eqb (h .rv) 0) (ltb 32 (h .rv)) (eqb (h .rh) 0) (ltb 32 (h .rh)) r in
+    let n1-most : h .n1 ≤ 512 = ltb-false 512 (h .n1) (sheet .1) in
+    let n2-most : h .n2 ≤ 698 = ltb-false 698 (h .n2) (sheet .3) in
+    let b1-most : h .b1 ≤ 4 = ltb-false 4 (h .b1) (burst .1) in
+    let b2-most : h .b2 ≤ 4 = ltb-false 4 (h .b2) (burst .3) in
+    let b1-some = eqb-false (h .b1) 0 (burst .0) in
+    let b2-some = eqb-false (h .b2) 0 (burst .2) in
+    let rv-some = eqb-false (h .rv) 0 (widths .0) in
+    let rh-some = eqb-false (h .rh) 0 (widths .2) in
+    record {
+      b1-pos = omega arith;
+      b1-most = b1-most;
+      b2-pos = omega arith;
+      b2-most = b2-most;
+      n1-least = ltb-false (h .n1) (h .b1) (sheet .0);
+      n1-most = n1-most;
+      n2-least = ltb-false (h .n2) (h .b2) (sheet .2);
+      n2-most = n2-most;
+      rv-pos = omega arith;
+      rv-most = ltb-false 32 (h .rv) (widths .1);
+      rh-pos = omega arith;
+      rh-most = ltb-false 32 (h .rh) (widths .3);
+      row-positions = mul-le-mul n1-most b2-most;
+      column-positions = mul-le-mul n2-most b1-most;
+    }
+
+-- a negated equality test that fails
+same : (a b : ℕ) → not (eqb a b) ≡ false → a ≡ b
+same a b e = eqb-true a b (not-false (eqb a b) e)
+
+pub framed : (s : List ℕ) → headerVerdict s .number ≡ 0 → Framed s (headerOf s)
+unfolding headerVerdict fieldsVerdict badOffsets
+framed s e =
+    let h = headerOf s in
+    let long = else-zero (verdictIf (ltb (length s) headerLength) (refusal 1 0 0)) (fieldsVerdict (length s) h) e in
+    let burst = else-zero (verdictIf (badBurst h) (refusal 2 0 0)) _ (long .1) in
+    let sheet = else-zero (verdictIf (badSheet h) (refusal 3 0 0)) _ (burst .1) in
+    let widths = else-zero (verdictIf (badWidths h) (refusal 4 0 0)) (verdictIf (badOffsets (length s) h) (refusal 5 0 0)) (sheet .1) in
+    let offsets = or-false _ (not (eqb (length s) (planLength h))) (if-zero (badOffsets (length s) h) 4 0 0 (widths .1)) in
+    let three = four (not (eqb (h .rows) headerLength)) (not (eqb (h .columns) (columnsStart h))) (not (eqb (h .checks) (checksStart h)))
+    (not (eqb (h .length) (planLength h))) (offsets .0) in
+    record {
+      is = refl;
+      small = small h (if-zero (badBurst h) 1 0 0 (burst .0)) (if-zero (badSheet h) 2 0 0 (sheet .0)) (if-zero (badWidths h) 3 0 0 (widths .0));
+      rows-at = same (h .rows) headerLength (three .0);
+      columns-at = same (h .columns) (columnsStart h) (three .1);
+      checks-at = same (h .checks) (checksStart h) (three .2);
+      length-at = same (h .length) (planLength h) (three .3);
+      long = same (length s) (planLength h) (offsets .1);
+    }

@@ -1,0 +1,41 @@
+-- The code that a plan's bytes stand for (document 01, "Plan bytes").
+--
+--   rowEntryAt, columnEntryAt        the entry at a position of the row table V and of the column table H
+--   checkRowAt, checkColumnAt        row and column of a pair of the check list
+--   codeOf                           all of a plan, as the code's mathematics has it
+use Prim.Native.Nat.{ℕ, _+_, _*_}
+use mathlib.Core.List.{List}
+use Rattle.layout.specs.Number.{u16At, u32At}
+use Rattle.boxcode.specs.Code.{Code}
+use Rattle.plan.specs.declared.header.Header.{Header}
+use Rattle.plan.specs.Header.{headerLength, headerOf, columnsStart, checksStart}
+
+abbrev pub rowEntryAt : List ℕ → ℕ → ℕ
+rowEntryAt s k = u32At s (headerLength + 4 * k)
+
+abbrev pub columnEntryAt : List ℕ → Header → ℕ → ℕ
+columnEntryAt s h k = u32At s (columnsStart h + 4 * k)
+
+abbrev pub checkRowAt : List ℕ → Header → ℕ → ℕ
+checkRowAt s h k = u16At s (checksStart h + 4 * k)
+
+abbrev pub checkColumnAt : List ℕ → Header → ℕ → ℕ
+checkColumnAt s h k = u16At s (checksStart h + 4 * k + 2)
+
+-- the code with the header h in the bytes s
+abbrev pub codeWith : List ℕ → Header → Code
+codeWith s h = record {
+  n1 = h .n1;
+  n2 = h .n2;
+  b1 = h .b1;
+  b2 = h .b2;
+  rv = h .rv;
+  rh = h .rh;
+  rowEntry = rowEntryAt s;
+  columnEntry = columnEntryAt s h;
+  checkRow = checkRowAt s h;
+  checkColumn = checkColumnAt s h;
+}
+
+unfoldable pub codeOf : List ℕ → Code
+codeOf s = codeWith s (headerOf s)

@@ -1,0 +1,41 @@
+// The ten numbers of a plan's header.
+ghost use mathlib.Core.Path.{_≡_};
+ghost use Prim.Native.Nat.{_≤_};
+ghost use lib.ListN.{length};
+ghost use Rattle.plan.specs.Header.{headerLength, headerOf};
+use layout::number::u16_at;
+
+// How many bytes a header has: one name, since a later format has another.
+pub const LENGTH: usize = 20;
+
+pub struct Header {
+    pub n1: usize,
+    pub n2: usize,
+    pub b1: usize,
+    pub b2: usize,
+    pub rv: usize,
+    pub rh: usize,
+    pub rows: usize,
+    pub columns: usize,
+    pub checks: usize,
+    pub length: usize,
+}
+
+// The header of a plan that has one.
+pub fn read(plan: &[u8]) -> Header
+    requires { ⌜ headerLength ≤ length (now plan) ⌝ }
+    ensures { λ r. ⌜ r ≡ headerOf (now (plan .entry)) ⌝ }
+{
+    Header {
+        n1: u16_at(plan, 0),
+        n2: u16_at(plan, 2),
+        b1: u16_at(plan, 4),
+        b2: u16_at(plan, 6),
+        rv: u16_at(plan, 8),
+        rh: u16_at(plan, 10),
+        rows: u16_at(plan, 12),
+        columns: u16_at(plan, 14),
+        checks: u16_at(plan, 16),
+        length: u16_at(plan, 18),
+    }
+}

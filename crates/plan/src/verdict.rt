@@ -1,0 +1,39 @@
+// The answer of a check: 0, or its number in document 01's table with two places.
+ghost use mathlib.Core.Path.{_≡_};
+ghost use mathlib.Core.Bool.{cond};
+ghost use lib.Dec.{ltb};
+ghost use Rattle.plan.specs.Verdict.{accepted, refusal, verdictIf};
+
+pub struct Verdict {
+    pub number: usize,
+    pub p: usize,
+    pub q: usize,
+}
+
+// No check failed.
+pub fn accept() -> Verdict
+    ensures { λ r. ⌜ r ≡ accepted ⌝ }
+{
+    Verdict {
+        number: 0,
+        p: 0,
+        q: 0,
+    }
+}
+
+// A check failed, at two places.
+pub fn refuse(number: usize, p: usize, q: usize) -> Verdict
+    ensures { λ r. ⌜ r ≡ refusal number p q ⌝ }
+{
+    Verdict { number, p, q }
+}
+
+// The refusal where the check fails.
+pub fn refuse_if(bad: bool, number: usize, p: usize, q: usize) -> Verdict
+    ensures { λ r. ⌜ r ≡ verdictIf bad (refusal number p q) ⌝ }
+{
+    if bad {
+        return refuse(number, p, q);
+    }
+    accept()
+}

@@ -1,0 +1,105 @@
+//! The small plans of document 01 and what they do ("Small plans and what they do").
+
+use crate::plan::{field, set_header_field, Plan};
+
+pub fn plan_s() -> Plan {
+    Plan {
+        n1: 3,
+        n2: 3,
+        b1: 1,
+        b2: 1,
+        rv: 2,
+        rh: 2,
+        v: vec![1, 2, 3],
+        h: vec![0, 1, 2],
+        checks: vec![(0, 0), (0, 1), (0, 2), (1, 0)],
+    }
+}
+
+pub fn plan_t() -> Plan {
+    Plan {
+        n1: 2,
+        n2: 4,
+        b1: 1,
+        b2: 2,
+        rv: 4,
+        rh: 2,
+        v: vec![1, 2, 4, 8],
+        h: vec![0, 0, 1, 2],
+        checks: vec![(0, 0), (0, 1), (0, 2), (0, 3), (1, 0), (1, 1)],
+    }
+}
+
+/// A plan's bytes and the number and places that the plan test gives.
+pub type PlanCase = (Vec<u8>, (u64, u64, u64));
+
+/// Cases 1, 8, 9, 10 and 11.
+pub fn plan_cases() -> Vec<PlanCase> {
+    let (s, t) = (plan_s(), plan_t());
+    let s_v = |v: [u32; 3]| Plan { v: v.to_vec(), ..plan_s() };
+    let s_h = |h: [u32; 3]| Plan { h: h.to_vec(), ..plan_s() };
+    let t_h = Plan { h: vec![0, 0, 1, 1], ..plan_t() };
+    let s_checks = Plan { checks: vec![(0, 0), (0, 1), (1, 0), (2, 0)], ..plan_s() };
+    let mut cases = vec![
+        (s.encode(), (0, 0, 0)),
+        (t.encode(), (0, 0, 0)),
+        (s_v([1, 2, 2]).encode(), (8, 1, 2)),
+        (s_v([0, 1, 2]).encode(), (8, 0, 0)),
+        (s_h([0, 1, 1]).encode(), (9, 1, 2)),
+        (t_h.encode(), (9, 0, 2)),
+        (s_checks.encode(), (10, 3, 0)),
+    ];
+    // Case 11. One number of the header of S is altered; with a number at its limit, the next
+    // check that fails is told: 3 rows for a burst of 4, or an offset that no longer agrees.
+    for (place, value, number) in [
+        (field::N2, 698, 5),
+        (field::N2, 699, 3),
+        (field::N1, 512, 5),
+        (field::N1, 513, 3),
+        (field::B1, 4, 3),
+        (field::B1, 5, 2),
+        (field::RV, 32, 5),
+        (field::RV, 33, 4),
+    ] {
+        let mut bytes = s.encode();
+        set_header_field(&mut bytes, place, value);
+        cases.push((bytes, (number, 0, 0)));
+    }
+    cases
+}
+
+/// A plan, data, and the sheet that is written.
+pub type WriteCase = (Plan, Vec<u8>, Vec<u8>);
+
+/// Cases 2 and 5.
+pub fn write_cases() -> Vec<WriteCase> {
+    let s = |data: u8, sheet: [u8; 3]| (plan_s(), vec![data], sheet.to_vec());
+    let t = |data: u8, sheet: [u8; 2]| (plan_t(), vec![data], sheet.to_vec());
+    vec![
+        s(0x00, [0x00, 0x00, 0x00]),
+        s(0x01, [0x03, 0x03, 0x00]),
+        s(0x1f, [0x01, 0x07, 0x07]),
+        t(0x01, [0x05, 0x05]),
+        t(0x02, [0x0a, 0x0a]),
+        t(0x03, [0x0f, 0x0f]),
+    ]
+}
+
+/// A plan, a sheet, and what is read: the five numbers, the mended sheet and the data; or 14.
+pub type ReadCase = (Plan, Vec<u8>, Option<([u64; 5], Vec<u8>, Vec<u8>)>);
+
+/// Cases 3, 4, 6 and 7. The five numbers and the data of case 6 are told in case 12.
+pub fn read_cases() -> Vec<ReadCase> {
+    let s = |sheet: [u8; 3], read| (plan_s(), sheet.to_vec(), read);
+    let t = |sheet: [u8; 2], read| (plan_t(), sheet.to_vec(), read);
+    let case3 = ([1, 2, 0, 1, 1], vec![0x03, 0x03, 0x00], vec![0x01]);
+    let case6 = ([2, 0, 1, 1, 2], vec![0x05, 0x05], vec![0x01]);
+    vec![
+        s([0x03, 0x03, 0x01], Some(case3)),
+        s([0x03, 0x00, 0x00], None),
+        s([0x06, 0x01, 0x00], None),
+        t([0x03, 0x05], Some(case6)),
+        t([0x0c, 0x05], None),
+        t([0x01, 0x01], None),
+    ]
+}

@@ -1,0 +1,18 @@
+//! An independent model of the product of document 01 (01-scope.md), written from its words alone,
+//! and what the tests and timings of libsheet.a need beside it.
+//!
+//! Words: a row is a course of 01, a column a needle, a burst a blot, a syndrome the two sums of a
+//! sheet, a check cell a cell of the check list.
+
+pub mod answer;
+pub mod cases;
+pub mod damage;
+#[cfg(feature = "linked")]
+pub mod ffi;
+pub mod line;
+pub mod make;
+pub mod model;
+pub mod plan;
+pub mod rng;
+pub mod tally;
+pub mod yardstick;

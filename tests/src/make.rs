@@ -1,0 +1,174 @@
+//! Plans made to be accepted.
+
+use crate::model::{self, Span};
+use crate::plan::Plan;
+use crate::rng::Rng;
+
+/// A binary polynomial: z^degree plus the powers below it, bit i of `low` for z^i.
+#[derive(Clone, Copy, Debug)]
+pub struct Polynomial {
+    pub degree: usize,
+    pub low: u32,
+}
+
+/// Tables of powers for 3 × 3 bursts on 512 rows and 698 columns. Of all polynomials with constant
+/// term 1, none of smaller degree serves, and none of this degree with a smaller `low` (bin
+/// find_tables tries them in this order).
+pub const V_3X3: Polynomial = Polynomial { degree: 22, low: 0x3_9f0d };
+pub const H_3X3: Polynomial = Polynomial { degree: 14, low: 0x8f7 };
+
+/// The same for 4 × 4 bursts on 698 columns.
+pub const H_4X4: Polynomial = Polynomial { degree: 21, low: 0x3a09 };
+
+/// For 4 × 4 bursts any two windows that do not overlap fill all of rv = 32, and no table of powers
+/// of z goes far. This ratio, with `field_rows`, serves for 219 rows, more than any smaller number
+/// does (bin find_tables).
+pub const RATIO_4X4: u32 = 0x3_2b36;
+pub const ROWS_4X4: usize = 219;
+
+/// z^k modulo the polynomial, for k from 0 (request a of 02).
+pub fn powers(count: usize, modulus: Polynomial) -> Vec<u32> {
+    let full = 1 << modulus.degree | u64::from(modulus.low);
+    let mut entry = 1u64;
+    let mut entries = Vec::with_capacity(count);
+    for _ in 0..count {
+        entries.push(entry as u32);
+        entry <<= 1;
+        if entry >> modulus.degree == 1 {
+            entry ^= full;
+        }
+    }
+    entries
+}
+
+/// The product of two elements of the field of 2^32 elements, as polynomials modulo the primitive
+/// z^32 + z^22 + z^2 + z + 1.
+fn field_product(a: u32, b: u32) -> u32 {
+    let modulus = Polynomial { degree: 32, low: 0x0040_0007 };
+    let shifted = (0..32).scan(a, |power, _| {
+        let now = *power;
+        *power = now << 1 ^ if now >> 31 == 1 { modulus.low } else { 0 };
+        Some(now)
+    });
+    let chosen = shifted.enumerate().filter(|(bit, _)| b >> bit & 1 == 1);
+    chosen.fold(0, |sum, (_, power)| sum ^ power)
+}
+
+/// A V table of 4 entries a row: row i is ratio^i times 1, g, g^2, g^3, with g of order 15. The
+/// span of a row is then closed under the field of 16 elements, so that two windows are dependent
+/// for about one pair in 15 only.
+pub fn field_rows(rows: usize, ratio: u32) -> Vec<u32> {
+    const G: u32 = 0x2b4a_e0f2; // z to the power (2^32 - 1) / 15
+    let mut entries = Vec::with_capacity(4 * rows);
+    let mut first = 1;
+    for _ in 0..rows {
+        let mut entry = first;
+        for _ in 0..4 {
+            entries.push(entry);
+            entry = field_product(entry, G);
+        }
+        first = field_product(first, ratio);
+    }
+    entries
+}
+
+/// Where check cells are looked for: in sheet order, or in random order.
+#[derive(Clone, Copy, Debug)]
+pub enum CellOrder {
+    Sheet,
+    Scattered,
+}
+
+impl Plan {
+    /// Take check cells in the given order, each if its joint entry is no exclusive-or of those
+    /// taken, until there are rv + rh; then list them in rising order. None if there are too few.
+    pub fn with_checks(mut self, order: CellOrder, rng: &mut Rng) -> Option<Plan> {
+        let (n1, n2) = (self.n1 as u16, self.n2 as u16);
+        let mut cells: Vec<_> = (0..n1).flat_map(|i| (0..n2).map(move |j| (i, j))).collect();
+        if let CellOrder::Scattered = order {
+            rng.shuffle(&mut cells);
+        }
+        let mut taken = Span::default();
+        self.checks.clear();
+        for (i, j) in cells {
+            if taken.add(self.joint(i.into(), j.into())) {
+                self.checks.push((i, j));
+            }
+            if self.checks.len() == self.rv + self.rh {
+                self.checks.sort();
+                return Some(self);
+            }
+        }
+        None
+    }
+}
+
+/// The accepted plan with 3 × 3 bursts on n1 rows, at most 512, and n2 columns, at most 698, from
+/// the two tables of powers.
+pub fn powers_3x3(n1: usize, n2: usize, order: CellOrder, rng: &mut Rng) -> Plan {
+    let (v, h) = (powers(3 * n1, V_3X3), powers(3 * n2, H_3X3));
+    let (rv, rh) = (V_3X3.degree, H_3X3.degree);
+    let plan = Plan { n1, n2, b1: 3, b2: 3, rv, rh, v, h, checks: Vec::new() };
+    plan.with_checks(order, rng).expect("there are enough cells")
+}
+
+/// The accepted plan with 4 × 4 bursts that is the largest found.
+pub fn largest_4x4(order: CellOrder, rng: &mut Rng) -> Plan {
+    let (n1, n2) = (ROWS_4X4, 698);
+    let (v, h) = (field_rows(n1, RATIO_4X4), powers(4 * n2, H_4X4));
+    let plan = Plan { n1, n2, b1: 4, b2: 4, rv: 32, rh: H_4X4.degree, v, h, checks: Vec::new() };
+    plan.with_checks(order, rng).expect("there are enough cells")
+}
+
+/// A random accepted plan for bursts of b1 × b2, with at most `more` rows and columns beyond one
+/// burst. One in four has exactly b1 rows, one in four exactly b2 columns, if such are accepted.
+pub fn accepted(rng: &mut Rng, b1: usize, b2: usize, more: usize) -> Plan {
+    loop {
+        let Some(shape) = random_shape(rng, b1, b2, more) else { continue };
+        let order = rng.pick(&[CellOrder::Sheet, CellOrder::Scattered]);
+        let Some(plan) = with_random_tables(rng, shape).with_checks(order, rng) else { continue };
+        if !model::test_plan(&plan.encode()).is_refusal() {
+            return plan;
+        }
+    }
+}
+
+/// Sizes under which a plan can be accepted, tables and check list left empty.
+fn random_shape(rng: &mut Rng, b1: usize, b2: usize, more: usize) -> Option<Plan> {
+    let mut size = |b: usize| if rng.one_in(4) { b } else { rng.within(b, b + more) };
+    let (n1, n2) = (size(b1), size(b2));
+    // As many entries as two windows, and as many members as two strips, can have.
+    let least_rv = (2 * b1).min(n1) * b2;
+    let least_rh = (b2.min(n2 - b2) * b1).max(1);
+    // The joint entries of all cells have at most this rank: the entries of both tables, less one
+    // for each pair of remainders, whose cells see no other entries than each other's.
+    let rank = n1 * b2 + n2 * b1 - b1 * b2;
+    let most_rv = 32.min(n1 * b2).min(rank.checked_sub(least_rh)?);
+    if most_rv < least_rv {
+        return None;
+    }
+    let rv = width(rng, least_rv, most_rv);
+    let most_rh = 32.min(n2 * b1).min(rank - rv);
+    let no_data = n1 * n2 == rank && rank - rv == most_rh && rng.one_in(2);
+    let rh = if no_data { most_rh } else { width(rng, least_rh, most_rh) };
+    Some(Plan { n1, n2, b1, b2, rv, rh, v: Vec::new(), h: Vec::new(), checks: Vec::new() })
+}
+
+/// A width from `least` to `most`: mostly near the least, one time in six the most.
+fn width(rng: &mut Rng, least: usize, most: usize) -> usize {
+    if rng.one_in(6) { most } else { rng.within(least, most.min(least + 8)) }
+}
+
+/// Each table random, or of powers modulo a random polynomial with constant term 1.
+fn with_random_tables(rng: &mut Rng, shape: Plan) -> Plan {
+    let mut table = |count: usize, width: usize| {
+        if rng.one_in(2) {
+            powers(count, Polynomial { degree: width, low: rng.bits(width) | 1 })
+        } else {
+            (0..count).map(|_| rng.bits(width)).collect()
+        }
+    };
+    let v = table(shape.n1 * shape.b2, shape.rv);
+    let h = table(shape.n2 * shape.b1, shape.rh);
+    Plan { v, h, ..shape }
+}

@@ -1,0 +1,73 @@
+//! Sheets as bytes: cells, syndrome, data, and the written sheet.
+
+use super::algebra::solve;
+use crate::plan::Plan;
+
+/// Row and column.
+pub type Cell = (usize, usize);
+
+/// Is the cell dark?
+pub fn cell(plan: &Plan, sheet: &[u8], (i, j): Cell) -> bool {
+    sheet[i * plan.row_len() + j / 8] >> (j % 8) & 1 == 1
+}
+
+pub fn turn_over(plan: &Plan, sheet: &mut [u8], (i, j): Cell) {
+    sheet[i * plan.row_len() + j / 8] ^= 1 << (j % 8);
+}
+
+/// The bits of a row's last byte that no column uses.
+pub fn unused_bits(plan: &Plan) -> u8 {
+    match plan.n2 % 8 {
+        0 => 0,
+        used => 0xff << used,
+    }
+}
+
+/// The two sums of a sheet as one number, V + 2^rv × H. It is 0 if the sheet belongs to the plan.
+pub fn syndrome(plan: &Plan, sheet: &[u8]) -> u64 {
+    let mut sum = 0;
+    for i in 0..plan.n1 {
+        for j in 0..plan.n2 {
+            if cell(plan, sheet, (i, j)) {
+                sum ^= plan.joint(i, j);
+            }
+        }
+    }
+    sum
+}
+
+/// The cells that are not check cells, in sheet order: where the data lies.
+fn data_cells(plan: &Plan) -> impl Iterator<Item = Cell> + '_ {
+    let cells = (0..plan.n1).flat_map(|i| (0..plan.n2).map(move |j| (i, j)));
+    let mut checks = plan.checks.iter().peekable();
+    cells.filter(move |&(i, j)| checks.next_if(|&&check| check == (i as u16, j as u16)).is_none())
+}
+
+/// The data in a sheet, packed lowest bit first.
+pub fn data_of(plan: &Plan, sheet: &[u8]) -> Vec<u8> {
+    let mut data = vec![0; plan.data_len()];
+    for (bit, at) in data_cells(plan).enumerate() {
+        data[bit / 8] |= u8::from(cell(plan, sheet, at)) << (bit % 8);
+    }
+    data
+}
+
+/// The written sheet: the one that holds the data in the cells that are not check cells and
+/// belongs to the plan. The plan must be accepted and the data of the right length.
+pub fn write_sheet(plan: &Plan, data: &[u8]) -> Vec<u8> {
+    let mut sheet = vec![0; plan.sheet_len()];
+    for (bit, at) in data_cells(plan).enumerate() {
+        if data[bit / 8] >> (bit % 8) & 1 == 1 {
+            turn_over(plan, &mut sheet, at);
+        }
+    }
+    let checks = plan.checks.iter().map(|&(i, j)| (usize::from(i), usize::from(j)));
+    let entries = checks.clone().map(|(i, j)| plan.joint(i, j));
+    let dark = solve(entries, syndrome(plan, &sheet)).expect("the check cells of an accepted plan span");
+    for (index, at) in checks.enumerate() {
+        if dark >> index & 1 == 1 {
+            turn_over(plan, &mut sheet, at);
+        }
+    }
+    sheet
+}

@@ -1,0 +1,48 @@
+//! What the library's speed is measured against: the same work in Rust, for the timings of bin
+//! bench alone. The tests compare it with the model.
+
+mod best;
+mod plain;
+mod sheets;
+
+pub use sheets::{read_accepted, write_accepted};
+
+use crate::answer::Answer;
+use crate::model::{accept_by, Places};
+use crate::plan::Plan;
+
+/// The plan test in plain Rust: the first window's basis is built once for each i, and the second
+/// window's vectors are added for each pair.
+pub fn plain_plan_test(bytes: &[u8]) -> u64 {
+    packed(bytes, plain::windows, plain::strips)
+}
+
+/// The plan test in the best scalar Rust we could write without heap or large tables.
+pub fn best_plan_test(bytes: &[u8]) -> u64 {
+    packed(bytes, best::windows, best::strips)
+}
+
+fn packed(bytes: &[u8], windows: fn(&Plan) -> Places, strips: fn(&Plan) -> Places) -> u64 {
+    accept_by(bytes, windows, strips).err().unwrap_or_default().pack()
+}
+
+/// A set of vectors, each at the place of its highest bit.
+#[derive(Clone, Copy)]
+struct Basis([u32; 32]);
+
+impl Basis {
+    const EMPTY: Basis = Basis([0; 32]);
+
+    /// Add a vector; false if it is an exclusive-or of those added before.
+    fn add(&mut self, mut vector: u32) -> bool {
+        while vector != 0 {
+            let place = &mut self.0[31 - vector.leading_zeros() as usize];
+            if *place == 0 {
+                *place = vector;
+                return true;
+            }
+            vector ^= *place;
+        }
+        false
+    }
+}

@@ -1,0 +1,91 @@
+//! Writing and reading beyond the plan test, in plain Rust: one pass over the cells, row by row,
+//! with the remainders counted along.
+
+use crate::answer::Answer;
+use crate::model::{smallest_rectangle, solve, Cell};
+use crate::plan::Plan;
+
+/// Write under an accepted plan, with buffers of the right length and unused bits 0.
+pub fn write_accepted(plan: &Plan, data: &[u8], sheet: &mut [u8]) {
+    sheet.fill(0);
+    let mut bit = 0;
+    each_data_cell(plan, |byte, shift| {
+        sheet[byte] |= (data[bit / 8] >> (bit % 8) & 1) << shift;
+        bit += 1;
+    });
+    let (v, h) = sums(plan, sheet);
+    let joint = u64::from(v) | u64::from(h) << plan.rv;
+    let checks = plan.checks.iter().map(|&(i, j)| (usize::from(i), usize::from(j)));
+    let entries = checks.clone().map(|(i, j)| plan.joint(i, j));
+    let dark = solve(entries, joint).expect("the check cells of an accepted plan span");
+    for (index, (i, j)) in checks.enumerate() {
+        sheet[i * plan.row_len() + j / 8] |= (dark >> index & 1) as u8 * (1 << (j % 8));
+    }
+}
+
+/// Read under an accepted plan, with buffers of the right length and unused bits 0.
+pub fn read_accepted(plan: &Plan, sheet: &mut [u8], data: &mut [u8]) -> Answer {
+    let Some(burst) = burst(plan, sums(plan, sheet)) else {
+        return Answer::refusal(14, 0, 0);
+    };
+    for &(i, j) in &burst {
+        sheet[i * plan.row_len() + j / 8] ^= 1 << (j % 8);
+    }
+    data.fill(0);
+    let mut bit = 0;
+    each_data_cell(plan, |byte, shift| {
+        data[bit / 8] |= (sheet[byte] >> shift & 1) << (bit % 8);
+        bit += 1;
+    });
+    smallest_rectangle(&burst)
+}
+
+/// Byte and bit of each cell that is not a check cell, in sheet order.
+fn each_data_cell(plan: &Plan, mut visit: impl FnMut(usize, usize)) {
+    let mut checks = plan.checks.iter().copied().peekable();
+    for i in 0..plan.n1 {
+        for j in 0..plan.n2 {
+            if checks.next_if_eq(&(i as u16, j as u16)).is_none() {
+                visit(i * plan.row_len() + j / 8, j % 8);
+            }
+        }
+    }
+}
+
+/// The V sum and the H sum.
+fn sums(plan: &Plan, sheet: &[u8]) -> (u32, u32) {
+    let (mut v_sum, mut h_sum) = (0, 0);
+    for (i, row) in sheet.chunks(plan.row_len()).enumerate() {
+        let v = &plan.v[i * plan.b2..(i + 1) * plan.b2];
+        let h = plan.h[i % plan.b1..].iter().step_by(plan.b1);
+        for ((j, &h), &v) in h.enumerate().zip(v.iter().cycle()) {
+            let dark = u32::from(row[j / 8] >> (j % 8) & 1).wrapping_neg();
+            v_sum ^= v & dark;
+            h_sum ^= h & dark;
+        }
+    }
+    (v_sum, h_sum)
+}
+
+/// The burst that fits: a window's pattern from the V sum, then its place from the H sum.
+fn burst(plan: &Plan, (v_sum, h_sum): (u32, u32)) -> Option<Vec<Cell>> {
+    let (b1, b2) = (plan.b1, plan.b2);
+    if v_sum == 0 {
+        return (h_sum == 0).then(Vec::new);
+    }
+    for top in 0..=plan.n1 - b1 {
+        let entries = &plan.v[top * b2..(top + b1) * b2];
+        let Some(pattern) = solve(entries.iter().map(|&entry| entry.into()), v_sum.into()) else {
+            continue;
+        };
+        for left in 0..=plan.n2 - b2 {
+            let rectangle = (top..top + b1).flat_map(|i| (left..left + b2).map(move |j| (i, j)));
+            let inside = |&(i, j): &Cell| pattern >> ((i - top) * b2 + j % b2) & 1 == 1;
+            let laid = rectangle.filter(inside);
+            if laid.clone().fold(0, |sum, (i, j)| sum ^ plan.h_entry(i, j)) == h_sum {
+                return Some(laid.collect());
+            }
+        }
+    }
+    None
+}
