@@ -1,19 +1,20 @@
 -- Laws of the searches of specs/Search.antt:
 --
 --   least-le, least-found, least-first, least-most, least-is, least-none, least-equal   the first place at which p holds
+--   search-finds, search-ends                                                           what a loop that tries them in turn has
 --   any-found, any-here, any-none, none-any, any-equal                                  some place at which p holds
 --   first-is, first-none, first-equal                                                   the first, or 0
 --   past-le, past-above, past-last, past-none, past-equal                               one more than the last, or 0
 --
 -- Assumes nothing.
 use mathlib.Core.Path.{_≡_, refl, sym, ap, ap₂, _∙_}
-use mathlib.Core.Bool.{Bool, true, false, cond, _&&_, _||_}
-use Prim.Native.Nat.{ℕ, zero, suc, _+_, _≤_, _<_}
+use mathlib.Core.Bool.{Bool, true, false, cond, _||_}
+use Prim.Native.Nat.{ℕ, zero, suc, _≤_, _<_}
 use native.Mathlib.Nat.{zero-lt-suc, lt-suc-self}
 use native.Mathlib.Decide.{ℕ-discrete, decLt}
 use native.Mathlib.Omega.{arith}
 use Rattle.finite.specs.Search.{least, anyBelow, firstOf, pastOf}
-use Rattle.finite.proofs.Truth.{Truth, is-true, is-false, true-or-false, clash, same-truth, not-true, or-left, or-right, or-cases}
+use Rattle.finite.proofs.Truth.{clash, not-true, or-left, or-right, or-cases}
 
 pub least-le : (n : ℕ) (p : ℕ → Bool) → least n p ≤ n
 unfolding least

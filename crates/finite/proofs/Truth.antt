@@ -2,7 +2,6 @@
 --
 --   and-left, and-right, and-both   a conjunction is true exactly where both parts are
 --   or-cases, or-left, or-right     a disjunction is true exactly where one part is
---   or-false                        and false where both are
 --   same-truth                      two values are equal if each is true where the other is
 --   true-or-false                   every value is one or the other, with the equation
 --   clash                           no value is both
@@ -10,8 +9,8 @@
 --   within-from, within-to, in-within         the numbers of a run
 --
 -- Assumes nothing.
-use mathlib.Core.Path.{_≡_, refl, sym, ap, _∙_}
-use mathlib.Core.Bool.{Bool, true, false, _&&_, _||_, not, xor, true≢false}
+use mathlib.Core.Path.{_≡_, refl, sym, _∙_}
+use mathlib.Core.Bool.{Bool, true, false, _&&_, _||_, xor, true≢false}
 use Prim.Native.Nat.{ℕ, _+_, _≤_, _<_}
 use lib.Dec.{leb, ltb}
 use borrow.Author.Tests.{leb-true, ltb-true, le-leb, lt-ltb}
@@ -52,11 +51,6 @@ or-right false b p = p
 pub or-cases {ℓ} : {A : Type ℓ} (a b : Bool) → (a || b) ≡ true → (a ≡ true → A) → (b ≡ true → A) → A
 or-cases true b e f g = f refl
 or-cases false b e f g = g e
-
--- a disjunction that is false: both parts are
-pub or-false : (a b : Bool) → (a || b) ≡ false → (a ≡ false) × (b ≡ false)
-or-false true b e = clash refl e
-or-false false b e = (refl, e)
 
 pub not-true : (a : Bool) → (a ≡ true → ⊥) → a ≡ false
 not-true true h = absurd (h refl)

@@ -1,2 +1,3 @@
 -- What stands in the bytes of a plan and of a sheet.
 pub mod Number
+pub mod Cells

@@ -1,0 +1,87 @@
+-- What the reader makes of a sheet:
+--
+--   fits-mendable, mendable-fits, unmendable, not-mendable   a sheet is mendable exactly where some burst fits it
+--   change-burst, mended-belongs     the change is a burst, and the mended sheet belongs
+--   change-is                        under separation the change is the burst that fits
+--   Blotted                          a sheet is t with the cells of e turned over
+--   blotted-mendable, -change, -mended, -data   such a sheet is mended to t, if t belongs and e is a burst
+--   apart                            no two bursts make sheets that belong and differ in data equal
+--
+-- Assumes nothing.
+use mathlib.Core.Path.{_≡_, refl, sym, ap, _∙_}
+use mathlib.Core.Bool.{Bool, true, false, xor}
+use Prim.Native.Nat.{ℕ, _<_}
+use Rattle.boxcode.specs.Code.{Code, Formed}
+use Rattle.boxcode.specs.Syndrome.{Cells, rowSyndrome, columnSyndrome, Belongs, flip, SameCells}
+use Rattle.boxcode.specs.Burst.{Burst, Fits}
+use Rattle.boxcode.specs.Check.{dataSize, dataOf}
+use Rattle.boxcode.specs.Reader.{mendable, change, mended}
+use Rattle.finite.proofs.Truth.{clash, not-true, xor-back}
+use Rattle.boxcode.proofs.Syndrome.{belongs-cells}
+use Rattle.boxcode.proofs.Separated.{Separated}
+use Rattle.boxcode.proofs.Unique.{fits-row, fits-column, sums-fit, fits-unique}
+use Rattle.boxcode.proofs.Trial.{Found, found, has-burst}
+use Rattle.boxcode.proofs.Check.{data-cells}
+
+module _ (c : Code) (F : Formed c) (s : Cells) where
+  pub fits-mendable : (e : Cells) → Burst c e → Fits c s e → mendable c s ≡ true
+  unfolding mendable
+  fits-mendable e B f =
+      has-burst c F (rowSyndrome c s) (columnSyndrome c s) e
+      (record { burst = B; row = sym (fits-row c s e f); column = sym (fits-column c s e f) })
+
+  change-found : mendable c s ≡ true → Found c (rowSyndrome c s) (columnSyndrome c s) (change c s)
+  unfolding mendable change
+  change-found t = found c F (rowSyndrome c s) (columnSyndrome c s) t
+
+  pub change-burst : mendable c s ≡ true → Burst c (change c s)
+  change-burst t = change-found t .burst
+
+  pub change-fits : mendable c s ≡ true → Fits c s (change c s)
+  change-fits t = sums-fit c s (change c s) (sym (change-found t .row)) (sym (change-found t .column))
+
+  pub mended-belongs : mendable c s ≡ true → Belongs c (mended c s)
+  unfolding mended
+  mended-belongs t = change-fits t
+
+  -- refused exactly where no burst fits
+  pub unmendable : mendable c s ≡ false → (e : Cells) → Burst c e → Fits c s e → ⊥
+  unmendable t e B f = clash (fits-mendable e B f) t
+
+  pub none-fits : ((e : Cells) → Burst c e → Fits c s e → ⊥) → mendable c s ≡ false
+  none-fits h = not-true (mendable c s) (λ t. h (change c s) (change-burst t) (change-fits t))
+
+  pub change-is : Separated c → (e : Cells) → Burst c e → Fits c s e → (i j : ℕ) → change c s i j ≡ e i j
+  change-is S e B f =
+      let t = fits-mendable e B f in
+      fits-unique c S s (change c s) e (change-burst t) B (change-fits t) f
+
+-- ---- a sheet with one burst on it
+
+module _ (c : Code) (F : Formed c) (S : Separated c) (t e s : Cells) (b : Belongs c t) (B : Burst c e) (h : SameCells c s (flip t e)) where
+  -- turning the burst over again gives the sheet
+  back : SameCells c (flip s e) t
+  back i j li lj = ap (λ (x : Bool). xor x (e i j)) (h i j li lj) ∙ xor-back (t i j) (e i j)
+
+  fits : Fits c s e
+  fits = belongs-cells c t (flip s e) (λ i j li lj. sym (back i j li lj)) b
+
+  pub blotted-mendable : mendable c s ≡ true
+  blotted-mendable = fits-mendable c F s e B fits
+
+  pub blotted-change : (i j : ℕ) → change c s i j ≡ e i j
+  blotted-change = change-is c F s S e B fits
+
+  pub blotted-mended : SameCells c (mended c s) t
+  unfolding mended
+  blotted-mended i j li lj = ap (xor (s i j)) (blotted-change i j) ∙ back i j li lj
+
+  pub blotted-data : (d : ℕ) → d < dataSize c → dataOf c (mended c s) d ≡ dataOf c t d
+  blotted-data = data-cells c F (mended c s) t blotted-mended
+
+-- two sheets that belong and that two bursts make equal are the same cells
+pub apart : (c : Code) → Formed c → Separated c → (t t' e e' : Cells) → Belongs c t → Belongs c t' → Burst c e → Burst c e'
+    → SameCells c (flip t e) (flip t' e') → SameCells c t t'
+apart c F S t t' e e' b b' B B' h i j li lj =
+    sym (blotted-mended c F S t e (flip t e) b B (λ i j li lj. refl) i j li lj)
+    ∙ blotted-mended c F S t' e' (flip t e) b' B' h i j li lj

@@ -1,0 +1,261 @@
+-- The report of a set of cells:
+--
+--   report-cells          equal cells on the sheet give equal reports
+--   cells-flat            the number of cells, by cell numbers
+--   Some                  the set has a cell on the sheet
+--   report-inside         a set on the sheet lies in the rectangle of its report
+--   report-least          any rectangle that holds the set holds that one
+--   report-none           the empty set has five zeros
+--   box-count             a set in a rectangle has at most height × width cells
+--   burst-report          of a burst: at most 16 cells, on the sheet, no larger than b1 by b2
+--
+-- Assumes nothing.
+use mathlib.Core.Path.{_≡_, refl, sym, ap, ap₂, _∙_}
+use mathlib.Core.Bool.{Bool, true, false}
+use Prim.Native.Nat.{ℕ, zero, suc, _+_, _-_, _*_, _/_, _%_, _≤_, _<_}
+use native.Mathlib.Nat.{lt-suc-self, suc-mul, zero-mul, mul-le-mul, mul-le-mul-right}
+use native.Mathlib.Omega.{arith}
+use lib.Arith.{digits-lt, digits-div, digits-mod}
+use Rattle.finite.specs.Search.{anyBelow, countBelow, firstOf, pastOf}
+use Rattle.boxcode.specs.Code.{Code, Formed}
+use Rattle.boxcode.specs.Syndrome.{Cells, SameCells}
+use Rattle.boxcode.specs.Burst.{Inside, Burst}
+use Rattle.boxcode.specs.Reader.{Report, cellsIn, inRow, inColumn, reportOf}
+use Rattle.finite.proofs.Truth.{Truth, is-true, is-false, true-or-false, clash, not-true}
+use Rattle.finite.proofs.Search.{any-found, any-here, any-none, none-any, any-equal, first-is, first-none, first-equal, past-le, past-above, past-last, past-none, past-equal}
+use Rattle.finite.proofs.Count.{count-equal, count-none, count-rise, count-split, count-run}
+use Rattle.boxcode.proofs.Unique.{OnSheet}
+
+-- ---- the number of cells
+
+pub cells-equal : (n m : ℕ) (e e' : Cells) → ((i j : ℕ) → i < n → j < m → e i j ≡ e' i j) → cellsIn n m e ≡ cellsIn n m e'
+unfolding cellsIn
+cells-equal zero m e e' h = refl
+cells-equal (suc n) m e e' h =
+    ap₂ _+_ (cells-equal n m e e' (λ i j li. h i j (omega arith))) (count-equal m (e n) (e' n) (λ j lj. h n j (lt-suc-self n) lj))
+
+pub cells-flat : (n m : ℕ) (e : Cells) → cellsIn n m e ≡ countBelow (n * m) (λ t. e (t / m) (t % m))
+unfolding cellsIn
+cells-flat zero m e = sym (ap (λ (x : ℕ). countBelow x (λ t. e (t / m) (t % m))) (zero-mul m) ∙ count-none 0 (λ t. e (t / m) (t % m)) (λ k l. absurd (omega arith)))
+cells-flat (suc n) m e =
+    ap₂ _+_ (cells-flat n m e) (count-equal m (e n) (λ j. e ((n * m + j) / m) ((n * m + j) % m)) (λ j l. sym (ap₂ e (digits-div n l) (digits-mod n l))))
+    ∙ sym (ap (λ (x : ℕ). countBelow x (λ t. e (t / m) (t % m))) (suc-mul n m) ∙ count-split (n * m) m (λ t. e (t / m) (t % m)))
+
+-- a set in a rectangle has at most so many cells: also by the rows counted so far
+box-rows : (top left height width : ℕ) (e : Cells) → Inside top left height width e → (n m : ℕ)
+    → (cellsIn n m e ≤ (n - top) * width) × (cellsIn n m e ≤ height * width)
+unfolding cellsIn
+box-rows top left height width e on zero m = omega arith
+box-rows top left height width e on (suc n) m = go (true-or-false (anyBelow m (e n))) (box-rows top left height width e on n m)
+  where
+    row : countBelow m (e n) ≤ width
+    row = count-run left width (e n) (λ j t. on .column-from n j t) (λ j t. on .column-to n j t) m .1
+
+    go : Truth (anyBelow m (e n)) → (cellsIn n m e ≤ (n - top) * width) × (cellsIn n m e ≤ height * width)
+        → (cellsIn n m e + countBelow m (e n) ≤ (suc n - top) * width) × (cellsIn n m e + countBelow m (e n) ≤ height * width)
+    go (is-true t) ih =
+        let w = any-found m (e n) t in
+        let f : top ≤ n = on .row-from n (w .0) (w .2) in
+        let g : n < top + height = on .row-to n (w .0) (w .2) in
+        let r : countBelow m (e n) ≤ width = row in
+        let k : suc (n - top) ≤ height = omega arith in
+        let p : suc (n - top) * width ≤ height * width = mul-le-mul-right width k in
+        let q : suc (n - top) * width ≡ (n - top) * width + width = suc-mul (n - top) width in
+        let s : (suc n - top) * width ≡ suc (n - top) * width = ap (λ (x : ℕ). x * width) (let z : suc n - top ≡ suc (n - top) = omega arith in z) in
+        omega arith
+    go (is-false t) ih =
+        let z : countBelow m (e n) ≡ 0 = count-none m (e n) (any-none m (e n) t) in
+        let k : n - top ≤ suc n - top = omega arith in
+        let p : (n - top) * width ≤ (suc n - top) * width = mul-le-mul-right width k in
+        omega arith
+
+pub box-count : (top left height width : ℕ) (e : Cells) → Inside top left height width e → (n m : ℕ) → cellsIn n m e ≤ height * width
+box-count top left height width e on n m = box-rows top left height width e on n m .1
+
+pub cells-some : (n m : ℕ) (e : Cells) (i j : ℕ) → i < n → j < m → e i j ≡ true → 0 < cellsIn n m e
+cells-some n m e i j li lj t =
+    let p : ℕ → Bool = λ t. e (t / m) (t % m) in
+    let r : countBelow (i * m + j) p < countBelow (n * m) p =
+    count-rise (i * m + j) (n * m) p (ap₂ e (digits-div i lj) (digits-mod i lj) ∙ t) (digits-lt li lj) in
+    let f : cellsIn n m e ≡ countBelow (n * m) p = cells-flat n m e in
+    omega arith
+
+pub cells-none : (n m : ℕ) (e : Cells) → ((i j : ℕ) → i < n → j < m → e i j ≡ false) → cellsIn n m e ≡ 0
+unfolding cellsIn
+cells-none zero m e h = refl
+cells-none (suc n) m e h = ap₂ _+_ (cells-none n m e (λ i j li. h i j (omega arith))) (count-none m (e n) (λ j lj. h n j (lt-suc-self n) lj))
+
+-- ---- the run from the first place at which p holds to the last: rows and columns alike
+
+abbrev size : ℕ → (ℕ → Bool) → ℕ
+size n p = pastOf n p - firstOf n p
+
+module _ (n : ℕ) (p : ℕ → Bool) where
+  run-inside : (k : ℕ) → k < n → p k ≡ true → (firstOf n p ≤ k) × (k < firstOf n p + size n p)
+  run-inside k l t =
+      let f : firstOf n p ≤ k = first-is n p (any-here n p k l t) .least k t in
+      let g : k < pastOf n p = past-above n p k l t in
+      omega arith
+
+  -- the last place at which p holds
+  run-end : (k : ℕ) → k < n → p k ≡ true → (z : ℕ) × (z < n) × (p z ≡ true) × (firstOf n p + size n p ≡ suc z)
+  run-end k l t =
+      let g : k < pastOf n p = past-above n p k l t in
+      let w = past-last n p (omega arith) in
+      let e : pastOf n p ≡ suc (w .0) = w .1 in
+      let m : pastOf n p ≤ n = past-le n p in
+      let b : w .0 < n = omega arith in
+      let i = run-inside (w .0) b (w .2) in
+      (w .0, b, w .2, omega arith)
+
+  run-least : (a m : ℕ) → ((k : ℕ) → p k ≡ true → a ≤ k) → ((k : ℕ) → p k ≡ true → k < a + m) → (k : ℕ) → k < n → p k ≡ true
+      → (a ≤ firstOf n p) × (firstOf n p + size n p ≤ a + m)
+  run-least a m from to k l t =
+      let f = first-is n p (any-here n p k l t) in
+      let x : a ≤ firstOf n p = from (firstOf n p) (f .holds) in
+      let w = run-end k l t in
+      let e : firstOf n p + size n p ≡ suc (w .0) = w .3 in
+      let y : w .0 < a + m = to (w .0) (w .2) in
+      omega arith
+
+  -- also where p holds nowhere
+  run-bounds : (a m : ℕ) → 0 < n → ((k : ℕ) → p k ≡ true → a ≤ k) → ((k : ℕ) → p k ≡ true → k < a + m)
+      → (firstOf n p < n) × (size n p ≤ m) × (firstOf n p + size n p ≤ n)
+  run-bounds a m pos from to = go (true-or-false (anyBelow n p))
+    where
+      go : Truth (anyBelow n p) → (firstOf n p < n) × (size n p ≤ m) × (firstOf n p + size n p ≤ n)
+      go (is-true t) =
+          let f = first-is n p t in
+          let b : firstOf n p < n = f .below in
+          let r = run-least a m from to (firstOf n p) b (f .holds) in
+          let w = run-end (firstOf n p) b (f .holds) in
+          let e : firstOf n p + size n p ≡ suc (w .0) = w .3 in
+          let l : w .0 < n = w .1 in
+          omega arith
+      go (is-false t) =
+          let f : firstOf n p ≡ 0 = first-none n p t in
+          let q : pastOf n p ≡ 0 = past-none n p t in
+          omega arith
+
+-- ---- the report
+
+-- five zeros
+unfoldable pub nothing : Report
+nothing = record { cells = 0; top = 0; left = 0; height = 0; width = 0 }
+
+-- a rectangle holds the one of a report
+pub record Holds (top left height width : ℕ) (r : Report) : Type 0 where
+  pub above : top ≤ r .top
+  pub under : r .top + r .height ≤ top + height
+  pub before : left ≤ r .left
+  pub past : r .left + r .width ≤ left + width
+
+-- the numbers of a report of a burst, in their ranges
+pub record Small (c : Code) (r : Report) : Type 0 where
+  pub cells-most : r .cells ≤ c .b1 * c .b2
+  pub top-on : r .top < c .n1
+  pub left-on : r .left < c .n2
+  pub height-most : r .height ≤ c .b1
+  pub width-most : r .width ≤ c .b2
+  pub rows-on : r .top + r .height ≤ c .n1
+  pub columns-on : r .left + r .width ≤ c .n2
+
+module _ (c : Code) where
+  row-has : (e : Cells) (i j : ℕ) → j < c .n2 → e i j ≡ true → inRow c e i ≡ true
+  unfolding inRow
+  row-has e i j l t = any-here (c .n2) (e i) j l t
+
+  column-has : (e : Cells) (i j : ℕ) → i < c .n1 → e i j ≡ true → inColumn c e j ≡ true
+  unfolding inColumn
+  column-has e i j l t = any-here (c .n1) (λ i. e i j) i l t
+
+  has-row : (e : Cells) (i : ℕ) → inRow c e i ≡ true → (j : ℕ) × (j < c .n2) × (e i j ≡ true)
+  unfolding inRow
+  has-row e i t = any-found (c .n2) (e i) t
+
+  has-column : (e : Cells) (j : ℕ) → inColumn c e j ≡ true → (i : ℕ) × (i < c .n1) × (e i j ≡ true)
+  unfolding inColumn
+  has-column e j t = any-found (c .n1) (λ i. e i j) t
+
+  rows-equal : (e e' : Cells) → SameCells c e e' → (i : ℕ) → i < c .n1 → inRow c e i ≡ inRow c e' i
+  unfolding inRow
+  rows-equal e e' h i l = any-equal (c .n2) (e i) (e' i) (λ j lj. h i j l lj)
+
+  columns-equal : (e e' : Cells) → SameCells c e e' → (j : ℕ) → j < c .n2 → inColumn c e j ≡ inColumn c e' j
+  unfolding inColumn
+  columns-equal e e' h j l = any-equal (c .n1) (λ i. e i j) (λ i. e' i j) (λ i li. h i j li l)
+
+  pub report-cells : (e e' : Cells) → SameCells c e e' → reportOf c e ≡ reportOf c e'
+  unfolding reportOf
+  report-cells e e' h = λ i. record {
+    cells = cells-equal (c .n1) (c .n2) e e' h i;
+    top = first-equal (c .n1) (inRow c e) (inRow c e') (rows-equal e e' h) i;
+    left = first-equal (c .n2) (inColumn c e) (inColumn c e') (columns-equal e e' h) i;
+    height = past-equal (c .n1) (inRow c e) (inRow c e') (rows-equal e e' h) i - first-equal (c .n1) (inRow c e) (inRow c e') (rows-equal e e' h) i;
+    width = past-equal (c .n2) (inColumn c e) (inColumn c e') (columns-equal e e' h) i - first-equal (c .n2) (inColumn c e) (inColumn c e') (columns-equal e e' h) i;
+  }
+
+  pub report-inside : (e : Cells) → OnSheet c e → Inside (reportOf c e .top) (reportOf c e .left) (reportOf c e .height) (reportOf c e .width) e
+  unfolding reportOf
+  report-inside e on = record {
+    row-from = λ i j t. run-inside (c .n1) (inRow c e) i (on .rows i j t) (row-has e i j (on .columns i j t) t) .0;
+    row-to = λ i j t. run-inside (c .n1) (inRow c e) i (on .rows i j t) (row-has e i j (on .columns i j t) t) .1;
+    column-from = λ i j t. run-inside (c .n2) (inColumn c e) j (on .columns i j t) (column-has e i j (on .rows i j t) t) .0;
+    column-to = λ i j t. run-inside (c .n2) (inColumn c e) j (on .columns i j t) (column-has e i j (on .rows i j t) t) .1;
+  }
+
+  module _ (top left height width : ℕ) (e : Cells) (in-box : Inside top left height width e) where
+    from-row : (i : ℕ) → inRow c e i ≡ true → top ≤ i
+    from-row i t = let w = has-row e i t in in-box .row-from i (w .0) (w .2)
+
+    to-row : (i : ℕ) → inRow c e i ≡ true → i < top + height
+    to-row i t = let w = has-row e i t in in-box .row-to i (w .0) (w .2)
+
+    from-column : (j : ℕ) → inColumn c e j ≡ true → left ≤ j
+    from-column j t = let w = has-column e j t in in-box .column-from (w .0) j (w .2)
+
+    to-column : (j : ℕ) → inColumn c e j ≡ true → j < left + width
+    to-column j t = let w = has-column e j t in in-box .column-to (w .0) j (w .2)
+
+    pub report-least : (i j : ℕ) → i < c .n1 → j < c .n2 → e i j ≡ true → Holds top left height width (reportOf c e)
+    unfolding reportOf
+    report-least i j li lj t =
+        let r = run-least (c .n1) (inRow c e) top height from-row to-row i li (row-has e i j lj t) in
+        let k = run-least (c .n2) (inColumn c e) left width from-column to-column j lj (column-has e i j li t) in
+        record { above = r .0; under = r .1; before = k .0; past = k .1 }
+
+  pub report-none : (e : Cells) → ((i j : ℕ) → i < c .n1 → j < c .n2 → e i j ≡ false) → reportOf c e ≡ nothing
+  unfolding reportOf nothing
+  report-none e h =
+      let r : anyBelow (c .n1) (inRow c e) ≡ false = none-any (c .n1) (inRow c e) (λ i l. not-true (inRow c e i) (λ t. let w = has-row e i t in clash (w .2) (h i (w .0) l (w .1)))) in
+      let k : anyBelow (c .n2) (inColumn c e) ≡ false = none-any (c .n2) (inColumn c e) (λ j l. not-true (inColumn c e j) (λ t. let w = has-column e j t in clash (w .2) (h (w .0) j (w .1) l))) in
+      λ i. record {
+        cells = cells-none (c .n1) (c .n2) e h i;
+        top = first-none (c .n1) (inRow c e) r i;
+        left = first-none (c .n2) (inColumn c e) k i;
+        height = past-none (c .n1) (inRow c e) r i - first-none (c .n1) (inRow c e) r i;
+        width = past-none (c .n2) (inColumn c e) k i - first-none (c .n2) (inColumn c e) k i;
+      }
+
+  pub burst-report : Formed c → (e : Cells) → Burst c e → Small c (reportOf c e)
+  unfolding reportOf
+  burst-report F e B =
+      let p1 : 1 ≤ c .b1 = F .b1-pos in
+      let p2 : 1 ≤ c .b2 = F .b2-pos in
+      let q1 : c .b1 ≤ c .n1 = F .n1-least in
+      let q2 : c .b2 ≤ c .n2 = F .n2-least in
+      let r = run-bounds (c .n1) (inRow c e) (B .top) (c .b1) (omega arith) (from-row (B .top) (B .left) (c .b1) (c .b2) e (B .inside)) (to-row (B .top) (B .left) (c .b1) (c .b2) e (B .inside)) in
+      let k = run-bounds (c .n2) (inColumn c e) (B .left) (c .b2) (omega arith) (from-column (B .top) (B .left) (c .b1) (c .b2) e (B .inside)) (to-column (B .top) (B .left) (c .b1) (c .b2) e (B .inside)) in
+      record {
+        cells-most = box-count (B .top) (B .left) (c .b1) (c .b2) e (B .inside) (c .n1) (c .n2);
+        top-on = r .0;
+        left-on = k .0;
+        height-most = r .1;
+        width-most = k .1;
+        rows-on = r .2;
+        columns-on = k .2;
+      }
+
+-- a burst has at most 16 cells
+pub sixteen : (c : Code) → Formed c → c .b1 * c .b2 ≤ 16
+sixteen c F = mul-le-mul (F .b1-most) (F .b2-most)

@@ -1,0 +1,104 @@
+-- What the box-error code promises, for every code of the right form that meets the conditions. Read this file first.
+--
+--   at-most-one        at most one burst, as a set of cells, fits a sheet
+--   written-belongs, written-data, written-only   the written sheet is the one sheet that belongs and holds the data
+--   mendable-iff       a sheet is mendable exactly where some burst fits it
+--   mended-belongs, change-burst   a mendable sheet is mended to one that belongs, by turning over a burst
+--   mended-written     and that is the sheet written from the data read
+--   reads              a written sheet with one burst on it is read back, whole
+--   data-apart         no two bursts make sheets written from different data equal
+--
+-- Assumes nothing but what it takes as Spans.
+use mathlib.Core.Path.{_≡_, refl, sym, _∙_}
+use mathlib.Core.Logic.{_↔_}
+use mathlib.Core.Bool.{true}
+use Prim.Native.Nat.{ℕ, _<_}
+use Rattle.boxcode.specs.Code.{Code, Formed}
+use Rattle.boxcode.specs.Condition.{Conditions}
+use Rattle.boxcode.specs.Syndrome.{Cells, Belongs, flip, SameCells}
+use Rattle.boxcode.specs.Burst.{Burst, Fits}
+use Rattle.boxcode.specs.Check.{Bits, dataSize, written, dataOf}
+use Rattle.boxcode.specs.Reader.{mendable, change, mended, reportOf}
+use Rattle.boxcode.proofs.Separated.{Separated, separated}
+use Rattle.boxcode.proofs.Unique as Unique
+use Rattle.boxcode.proofs.Check.{data-cells}
+use Rattle.boxcode.proofs.Written as Written
+use Rattle.boxcode.proofs.Written.{Spans, Writable, writable}
+use Rattle.boxcode.proofs.Reader as Reader
+use Rattle.boxcode.proofs.Report.{report-cells}
+
+-- what is read from the sheet s, where s was written from x and had the cells of e turned over
+pub record Reads (c : Code) (x : Bits) (e s : Cells) : Type 0 where
+  pub taken : mendable c s ≡ true
+  pub turned : (i j : ℕ) → change c s i j ≡ e i j
+  pub sheet : SameCells c (mended c s) (written c x)
+  pub report : reportOf c (change c s) ≡ reportOf c e
+  pub bits : (d : ℕ) → d < dataSize c → dataOf c (mended c s) d ≡ x d
+
+-- ---- of any code of the right form
+
+module _ (c : Code) (F : Formed c) (s : Cells) where
+  -- 01: "it answers 14 to those that no blot fits and takes all others"
+  pub mendable-iff : (mendable c s ≡ true) ↔ ((e : Cells) × Burst c e × Fits c s e)
+  mendable-iff = (λ t. (change c s, Reader.change-burst c F s t, Reader.change-fits c F s t), λ w. Reader.fits-mendable c F s (w .0) (w .1) (w .2))
+
+  pub mended-belongs : mendable c s ≡ true → Belongs c (mended c s)
+  mended-belongs = Reader.mended-belongs c F s
+
+  pub change-burst : mendable c s ≡ true → Burst c (change c s)
+  change-burst = Reader.change-burst c F s
+
+-- ---- of a code that meets the conditions
+
+module _ (c : Code) (F : Formed c) (K : Conditions c) where
+  -- 01: "Under an accepted plan at most one blot, as a set of cells, fits"
+  pub at-most-one : (s e e' : Cells) → Burst c e → Burst c e' → Fits c s e → Fits c s e' → (i j : ℕ) → e i j ≡ e' i j
+  at-most-one = Unique.fits-unique c (separated c F K)
+
+module _ (spans : Spans) (c : Code) (F : Formed c) (K : Conditions c) where
+  W : Writable c
+  W = writable spans c F K
+
+  -- 01: "the one sheet .. that holds this string in the cells that are not check cells .. and belongs to the plan"
+  pub written-belongs : (x : Bits) → Belongs c (written c x)
+  written-belongs = W .belongs
+
+  pub written-data : (x : Bits) (d : ℕ) → d < dataSize c → dataOf c (written c x) d ≡ x d
+  written-data = Written.written-data c F
+
+  pub written-only : (x : Bits) (s : Cells) → Belongs c s → ((d : ℕ) → d < dataSize c → dataOf c s d ≡ x d) → SameCells c s (written c x)
+  written-only = Written.written-only c F W
+
+  pub mended-written : (s : Cells) → mendable c s ≡ true → SameCells c (mended c s) (written c (dataOf c (mended c s)))
+  mended-written s t = written-only (dataOf c (mended c s)) (mended c s) (mended-belongs c F s t) (λ d l. refl)
+
+  -- 01, demand 3: from a written sheet with one blot on it the reader gives the written sheet, the data and the blot's report
+  pub reads : (x : Bits) (e s : Cells) → Burst c e → SameCells c s (flip (written c x) e) → Reads c x e s
+  reads x e s B h = record {
+    taken = Reader.blotted-mendable c F S t e s b B h;
+    turned = turned;
+    sheet = Reader.blotted-mended c F S t e s b B h;
+    report = report-cells c (change c s) e (λ i j li lj. turned i j);
+    bits = λ d l. Reader.blotted-data c F S t e s b B h d l ∙ written-data x d l;
+  }
+    where
+      S : Separated c
+      S = separated c F K
+
+      t : Cells
+      t = written c x
+
+      b : Belongs c t
+      b = written-belongs x
+
+      turned : (i j : ℕ) → change c s i j ≡ e i j
+      turned = Reader.blotted-change c F S t e s b B h
+
+  -- 01, demand 3: what was written can be told from what is read
+  pub data-apart : (x x' : Bits) (e e' : Cells) → Burst c e → Burst c e' → SameCells c (flip (written c x) e) (flip (written c x') e')
+      → (d : ℕ) → d < dataSize c → x d ≡ x' d
+  data-apart x x' e e' B B' h d l =
+      sym (written-data x d l)
+      ∙ data-cells c F (written c x) (written c x')
+      (Reader.apart c F (separated c F K) (written c x) (written c x') e e' (written-belongs x) (written-belongs x') B B' h) d l
+      ∙ written-data x' d l

@@ -1,0 +1,163 @@
+-- The written sheet:
+--
+--   Spans            independent numbers of n bits, n of them, give every number of n bits (the algebra that writing rests on)
+--   checks-sum       the joint sum of a set of check cells
+--   belongs-only     two sheets that belong and hold the same data are the same cells
+--   written-data     the written sheet holds its data
+--   Writable         writing is possible: the written sheet belongs, and a belonging sheet is known by its data
+--   writable         a code that meets the conditions is writable
+--   written-only     the written sheet is the only sheet that belongs and holds its data
+--
+-- Assumes nothing but what it takes as Spans.
+use mathlib.Core.Path.{_≡_, refl, sym, ap, ap₂, _∙_}
+use mathlib.Core.Bool.{Bool, true, false, xor}
+use Prim.Native.Nat.{ℕ, _+_, _*_, _/_, _%_, _^_, _≤_, _<_}
+use native.Mathlib.Nat.{div-lt-iff-lt-mul, mod-lt}
+use native.Mathlib.Omega.{arith}
+use lib.Dec.{eqb}
+use borrow.Author.Tests.{eqb-true, eq-eqb}
+use Rattle.gf2.specs.Xor.{_⊕_, pick}
+use Rattle.gf2.specs.Sum.{chosenSum}
+use Rattle.gf2.specs.Independence.{Independent}
+use Rattle.gf2.proofs.Xor.{xor-self, xor-back as add-back}
+use Rattle.gf2.proofs.Sum.{sum-equal}
+use Rattle.finite.specs.Search.{bit, least, numberOf}
+use Rattle.boxcode.specs.Code.{Code, Formed, jointWeight, checkJoint, cellNumber}
+use Rattle.boxcode.specs.Condition.{Conditions, everyone}
+use Rattle.boxcode.specs.Syndrome.{Cells, weightSum, rowSyndrome, columnSyndrome, Belongs, flip, SameCells}
+use Rattle.boxcode.specs.Check.{Bits, checkNumber, checkAt, dataSize, fill, belongs, written, dataOf}
+use Rattle.finite.proofs.Truth as truth
+use Rattle.finite.proofs.Truth.{and-left, and-right, and-both, not-true, xor-equal}
+use Rattle.finite.proofs.Search.{least-found, least-most}
+use Rattle.finite.proofs.Digits.{number-below, bit-number}
+use Rattle.boxcode.proofs.Image.{sum-image, unpicked}
+use Rattle.boxcode.proofs.Syndrome.{weight-flip, weight-flat, weight-below, joint-below, joint-belongs, belongs-joint}
+use Rattle.boxcode.proofs.Check.{number-row, number-column, number-cell, check-listed, check-found, cell-data, rank-below, same-cells, fill-check, data-fill, width-pos}
+
+-- the one fact of algebra that is still to come
+abbrev pub Spans : Type 0
+Spans = (n : ℕ) (f : ℕ → ℕ) → n ≤ 64 → ((k : ℕ) → k < n → f k < 2 ^ n) → Independent n everyone f → (x : ℕ) → x < 2 ^ n
+    → (m : ℕ → Bool) × (chosenSum n m f ≡ x)
+
+-- the joint sum of a set of cells
+abbrev jointSum : Code → Cells → ℕ
+jointSum c s = weightSum (c .n1) (c .n2) (jointWeight c) s
+
+pub belongs-true : (c : Code) (s : Cells) → belongs c s ≡ true → Belongs c s
+unfolding belongs
+belongs-true c s t = record {
+  row-zero = eqb-true (rowSyndrome c s) 0 (and-left (eqb (rowSyndrome c s) 0) (eqb (columnSyndrome c s) 0) t);
+  column-zero = eqb-true (columnSyndrome c s) 0 (and-right (eqb (rowSyndrome c s) 0) (eqb (columnSyndrome c s) 0) t);
+}
+
+pub true-belongs : (c : Code) (s : Cells) → Belongs c s → belongs c s ≡ true
+unfolding belongs
+true-belongs c s b =
+    and-both (eqb (rowSyndrome c s) 0) (eqb (columnSyndrome c s) 0) (eq-eqb (rowSyndrome c s) 0 (b .row-zero)) (eq-eqb (columnSyndrome c s) 0 (b .column-zero))
+
+module _ (c : Code) (F : Formed c) where
+  -- of a set that has check cells only
+  pub checks-sum : (e : Cells) → ((d : ℕ) → d < dataSize c → dataOf c e d ≡ false)
+      → jointSum c e ≡ chosenSum (c .rv + c .rh) (λ k. e (c .checkRow k) (c .checkColumn k)) (checkJoint c)
+  unfolding checkJoint
+  checks-sum e none =
+      weight-flat (c .n1) (c .n2) (jointWeight c) e
+      ∙ sum-image (c .rv + c .rh) (c .n1 * c .n2) (checkNumber c) (check-listed c F) (λ t. at (t / c .n2) (t % c .n2)) (λ k. at (c .checkRow k) (c .checkColumn k))
+      (λ k l. unfold checkNumber in ap₂ at (number-row c (c .checkRow k) (c .checkColumn k) (F .check-columns k l)) (number-column c (c .checkRow k) (c .checkColumn k) (F .check-columns k l)))
+      (λ t l miss. unpicked (e (t / c .n2) (t % c .n2)) (jointWeight c (t / c .n2) (t % c .n2)) (off t l miss))
+    where
+      at : ℕ → ℕ → ℕ
+      at i j = pick (e i j) (jointWeight c i j)
+
+      off : (t : ℕ) → t < c .n1 * c .n2 → ((k : ℕ) → k < c .rv + c .rh → checkNumber c k ≡ t → ⊥) → e (t / c .n2) (t % c .n2) ≡ false
+      off t l miss =
+          let i = t / c .n2 in
+          let j = t % c .n2 in
+          let q : cellNumber c i j ≡ t = number-cell c t in
+          let f : checkAt c (cellNumber c i j) ≡ false =
+          not-true (checkAt c (cellNumber c i j)) (λ u. let w = check-found c F (cellNumber c i j) u in miss (w .0) (w .1) (w .2 ∙ q)) in
+          cell-data c F e i j (div-lt-iff-lt-mul (width-pos c F) .1 l) (mod-lt t (width-pos c F)) f
+          ∙ none _ (rank-below c F (cellNumber c i j) (omega arith) f)
+
+  -- two sheets with the same data differ in check cells only
+  apart-data : (s s' : Cells) → ((d : ℕ) → d < dataSize c → dataOf c s d ≡ dataOf c s' d) → (d : ℕ) → d < dataSize c → dataOf c (flip s s') d ≡ false
+  unfolding dataOf
+  apart-data s s' same d l = ap (λ (b : Bool). xor b (dataOf c s' d)) (same d l) ∙ truth.xor-self (dataOf c s' d)
+
+  apart-sum : (s s' : Cells) → ((d : ℕ) → d < dataSize c → dataOf c s d ≡ dataOf c s' d)
+      → jointSum c s ⊕ jointSum c s' ≡ chosenSum (c .rv + c .rh) (λ k. xor (s (c .checkRow k) (c .checkColumn k)) (s' (c .checkRow k) (c .checkColumn k))) (checkJoint c)
+  apart-sum s s' same = sym (weight-flip (c .n1) (c .n2) (jointWeight c) s s') ∙ checks-sum (flip s s') (apart-data s s' same)
+
+  pub belongs-only : Conditions c → (s s' : Cells) → Belongs c s → Belongs c s' → ((d : ℕ) → d < dataSize c → dataOf c s d ≡ dataOf c s' d) → SameCells c s s'
+  belongs-only K s s' b b' same =
+      same-cells c F s s'
+      (λ k l.
+      xor-equal (s (c .checkRow k) (c .checkColumn k)) (s' (c .checkRow k) (c .checkColumn k))
+      (K .checks (λ k. xor (s (c .checkRow k) (c .checkColumn k)) (s' (c .checkRow k) (c .checkColumn k))) (λ k t. refl)
+      (sym (apart-sum s s' same) ∙ ap₂ _⊕_ (belongs-joint c F s b) (belongs-joint c F s' b') ∙ xor-self 0)
+      k l))
+      same
+
+  pub written-data : (x : Bits) (d : ℕ) → d < dataSize c → dataOf c (written c x) d ≡ x d
+  unfolding written
+  written-data x = data-fill c F x (least (2 ^ (c .rv + c .rh)) (λ y. belongs c (fill c x y)))
+
+  -- some digits in the check cells make both sums 0
+  written-exists : Spans → Conditions c → (x : Bits) → (y : ℕ) × (y < 2 ^ (c .rv + c .rh)) × Belongs c (fill c x y)
+  written-exists spans K x = (y, number-below r mask, joint-belongs c F (fill c x y) none)
+    where
+      r : ℕ
+      r = c .rv + c .rh
+
+      few : c .rv + c .rh ≤ 64
+      few = let a : c .rv ≤ 32 = F .rv-most in let b : c .rh ≤ 32 = F .rh-most in omega arith
+
+      v : ℕ
+      v = jointSum c (fill c x 0)
+
+      way : (m : ℕ → Bool) × (chosenSum r m (checkJoint c) ≡ v)
+      way =
+          spans r (checkJoint c) few
+          (λ k l. unfold checkJoint in joint-below c F (c .checkRow k) (c .checkColumn k) (F .check-rows k l) (F .check-columns k l))
+          (K .checks) v (weight-below (c .n1) (c .n2) (jointWeight c) r (fill c x 0) (joint-below c F))
+
+      mask : ℕ → Bool
+      mask k = xor (way .0 k) (bit 0 k)
+
+      y : ℕ
+      y = numberOf r mask
+
+      turned : (k : ℕ) → k < r → xor (fill c x y (c .checkRow k) (c .checkColumn k)) (fill c x 0 (c .checkRow k) (c .checkColumn k)) ≡ way .0 k
+      turned k l =
+          ap₂ xor (fill-check c F x y k l ∙ bit-number r mask k l) (fill-check c F x 0 k l) ∙ truth.xor-back (way .0 k) (bit 0 k)
+
+      none : jointSum c (fill c x y) ≡ 0
+      none =
+          sym (add-back (jointSum c (fill c x y)) v)
+          ∙ ap (λ (z : ℕ). z ⊕ v)
+          (apart-sum (fill c x y) (fill c x 0) (λ d l. data-fill c F x y d l ∙ sym (data-fill c F x 0 d l))
+          ∙ sum-equal r (λ k. pick (xor (fill c x y (c .checkRow k) (c .checkColumn k)) (fill c x 0 (c .checkRow k) (c .checkColumn k))) (checkJoint c k))
+          (λ k. pick (way .0 k) (checkJoint c k)) (λ k l. ap (λ (b : Bool). pick b (checkJoint c k)) (turned k l))
+          ∙ way .1)
+          ∙ xor-self v
+
+  written-belongs : Spans → Conditions c → (x : Bits) → Belongs c (written c x)
+  unfolding written
+  written-belongs spans K x =
+      let w = written-exists spans K x in
+      let l : w .0 < 2 ^ (c .rv + c .rh) = w .1 in
+      let p : ℕ → Bool = λ y. belongs c (fill c x y) in
+      let m : least (2 ^ (c .rv + c .rh)) p ≤ w .0 = least-most (2 ^ (c .rv + c .rh)) p (w .0) (true-belongs c (fill c x (w .0)) (w .2)) in
+      belongs-true c (written c x) (least-found (2 ^ (c .rv + c .rh)) p (omega arith))
+
+-- data and the sheets that belong are one to one
+pub record Writable (c : Code) : Type 0 where
+  pub belongs : (x : Bits) → Belongs c (written c x)
+  pub only : (s s' : Cells) → Belongs c s → Belongs c s' → ((d : ℕ) → d < dataSize c → dataOf c s d ≡ dataOf c s' d) → SameCells c s s'
+
+pub writable : Spans → (c : Code) → Formed c → Conditions c → Writable c
+writable spans c F K = record { belongs = written-belongs c F spans K; only = belongs-only c F K }
+
+pub written-only : (c : Code) → Formed c → Writable c → (x : Bits) (s : Cells) → Belongs c s → ((d : ℕ) → d < dataSize c → dataOf c s d ≡ x d)
+    → SameCells c s (written c x)
+written-only c F W x s b same = W .only s (written c x) b (W .belongs x) (λ d l. same d l ∙ sym (written-data c F x d l))
