@@ -2,6 +2,7 @@
 --
 --   and-left, and-right, and-both   a conjunction is true exactly where both parts are
 --   or-cases, or-left, or-right     a disjunction is true exactly where one part is
+--   or-false                        and false where both are
 --   same-truth                      two values are equal if each is true where the other is
 --   true-or-false                   every value is one or the other, with the equation
 --   clash                           no value is both
@@ -51,6 +52,11 @@ or-right false b p = p
 pub or-cases {ℓ} : {A : Type ℓ} (a b : Bool) → (a || b) ≡ true → (a ≡ true → A) → (b ≡ true → A) → A
 or-cases true b e f g = f refl
 or-cases false b e f g = g e
+
+-- a disjunction that is false: both parts are
+pub or-false : (a b : Bool) → (a || b) ≡ false → (a ≡ false) × (b ≡ false)
+or-false true b e = clash refl e
+or-false false b e = (refl, e)
 
 pub not-true : (a : Bool) → (a ≡ true → ⊥) → a ≡ false
 not-true true h = absurd (h refl)

@@ -3,3 +3,4 @@ pub mod Verdict
 pub mod Header
 pub mod Bytes
 pub mod Form
+pub mod Table

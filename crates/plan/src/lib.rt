@@ -2,4 +2,5 @@
 pub mod entry;
 pub mod form;
 pub mod header;
+pub mod table;
 pub mod verdict;
