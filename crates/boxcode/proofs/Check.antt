@@ -3,32 +3,28 @@
 --   order-below, order-twice     the two laws of the data's order; no other fact of it is used
 --   number-row, number-column, number-on, number-cell    a cell and its number
 --   check-listed                 the check cells are different cells of the sheet
+--   check-row, check-column      a check cell from its number
 --   check-here, check-found, check-index   which numbers are check cells, and their places in the list
 --   dataAt                       a place of the data's order holds data
 --   checks-fit, data-count       the check cells are no more than the cells; so many places hold data as dataSize says
 --   data-below, data-free, data-rank   data bit d stands on the sheet, in no check cell, and is number d
 --   rank-below, rank-data        every other cell holds the data bit of its number
---   data-cells, cell-data, cell-check, same-cells   a sheet is known by its check cells and its data
---   fill-check, data-fill        what a filled sheet has in check cell k, and as its data
---   fill-back                    every sheet is filled with its data and its check cells
 --
 -- Assumes nothing.
-use mathlib.Core.Path.{_≡_, refl, sym, ap, ap₂, _∙_}
-use mathlib.Core.Bool.{Bool, true, false, cond, not}
+use mathlib.Core.Path.{_≡_, refl, sym, ap, _∙_}
+use mathlib.Core.Bool.{Bool, true, false, not}
 use Prim.Native.Nat.{ℕ, zero, suc, _+_, _*_, _/_, _%_, _≤_, _<_}
-use native.Mathlib.Nat.{mod-lt, div-lt-iff-lt-mul, div-add-mod'}
+use native.Mathlib.Nat.{div-add-mod'}
 use native.Mathlib.Decide.{ℕ-discrete, decLt}
 use native.Mathlib.Omega.{arith}
 use lib.Dec.{eqb}
 use lib.Arith.{digits-lt, digits-div, digits-mod}
 use borrow.Author.Tests.{eqb-true, eq-eqb, not-true as unnot}
-use Rattle.finite.specs.Search.{bit, anyBelow, countBelow, least, numberOf}
+use Rattle.finite.specs.Search.{anyBelow, countBelow, least}
 use Rattle.boxcode.specs.Code.{Code, Formed, cellNumber}
-use Rattle.boxcode.specs.Syndrome.{Cells, SameCells}
-use Rattle.boxcode.specs.Check.{Bits, checkNumber, checkAt, checkIndex, dataOrder, dataSize, rank, dataCell, fill, dataOf}
-use Rattle.finite.proofs.Truth.{Truth, is-true, is-false, true-or-false, same-truth}
+use Rattle.boxcode.specs.Check.{checkNumber, checkAt, checkIndex, dataOrder, dataSize, rank, dataCell}
+use Rattle.finite.proofs.Truth.{same-truth}
 use Rattle.finite.proofs.Search.{any-found, any-here, any-equal, least-found, least-most}
-use Rattle.finite.proofs.Digits.{bit-number}
 use Rattle.finite.proofs.Count.{count-equal, count-not, count-rise, select, select-count, select-below, select-holds, select-number}
 use Rattle.boxcode.proofs.Image.{Listed, count-image}
 
@@ -94,6 +90,14 @@ module _ (c : Code) (F : Formed c) where
           go (no h) (yes g) = let q : checkNumber c l < checkNumber c k = check-less l k g lk in absurd (omega arith)
           go (no h) (no g) = omega arith
 
+  pub check-row : (k : ℕ) → k < c .rv + c .rh → checkNumber c k / c .n2 ≡ c .checkRow k
+  unfolding checkNumber
+  check-row k l = number-row c (c .checkRow k) (c .checkColumn k) (F .check-columns k l)
+
+  pub check-column : (k : ℕ) → k < c .rv + c .rh → checkNumber c k % c .n2 ≡ c .checkColumn k
+  unfolding checkNumber
+  check-column k l = number-column c (c .checkRow k) (c .checkColumn k) (F .check-columns k l)
+
   pub check-here : (k : ℕ) → k < c .rv + c .rh → checkAt c (checkNumber c k) ≡ true
   unfolding checkAt
   check-here k l =
@@ -127,7 +131,8 @@ module _ (c : Code) (F : Formed c) where
     below = λ k l. order-below c (checkNumber c k) (check-listed c F .below k l);
     different = λ k l lk ll e.
         check-listed c F .different k l lk ll
-        (sym (order-twice c (checkNumber c k) (check-listed c F .below k lk)) ∙ ap (dataOrder c) e ∙ order-twice c (checkNumber c l) (check-listed c F .below l ll));
+        (sym (order-twice c (checkNumber c k) (check-listed c F .below k lk)) ∙ ap (dataOrder c) e
+        ∙ order-twice c (checkNumber c l) (check-listed c F .below l ll));
   }
 
   -- as many places of the data's order hold check cells as there are check cells
@@ -144,20 +149,19 @@ module _ (c : Code) (F : Formed c) where
       (sym (order-twice c (checkNumber c k) (check-listed c F .below k lk)) ∙ ap (dataOrder c) (eqb-true (dataOrder c (checkNumber c k)) u t)))))
       ∙ count-image (c .rv + c .rh) (c .n1 * c .n2) (λ k. dataOrder c (checkNumber c k)) order-listed
 
+  -- every place holds a check cell or data
+  places : c .rv + c .rh + countBelow (c .n1 * c .n2) (dataAt c) ≡ c .n1 * c .n2
+  unfolding dataAt
+  places =
+      ap (λ (x : ℕ). x + countBelow (c .n1 * c .n2) (dataAt c)) (sym checks-count)
+      ∙ count-not (c .n1 * c .n2) (λ u. checkAt c (dataOrder c u))
+
   pub checks-fit : c .rv + c .rh ≤ c .n1 * c .n2
-  checks-fit =
-      let e : countBelow (c .n1 * c .n2) (λ u. checkAt c (dataOrder c u)) ≡ c .rv + c .rh = checks-count in
-      let f : countBelow (c .n1 * c .n2) (λ u. checkAt c (dataOrder c u)) + countBelow (c .n1 * c .n2) (λ u. not (checkAt c (dataOrder c u))) ≡ c .n1 * c .n2
-      = count-not (c .n1 * c .n2) (λ u. checkAt c (dataOrder c u)) in
-      omega arith
+  checks-fit = omega (arith, places)
 
   pub data-count : countBelow (c .n1 * c .n2) (dataAt c) ≡ dataSize c
-  unfolding dataAt dataSize
-  data-count =
-      let e : countBelow (c .n1 * c .n2) (λ u. checkAt c (dataOrder c u)) ≡ c .rv + c .rh = checks-count in
-      let f : countBelow (c .n1 * c .n2) (λ u. checkAt c (dataOrder c u)) + countBelow (c .n1 * c .n2) (λ u. not (checkAt c (dataOrder c u))) ≡ c .n1 * c .n2
-      = count-not (c .n1 * c .n2) (λ u. checkAt c (dataOrder c u)) in
-      omega arith
+  unfolding dataSize
+  data-count = omega (arith, places)
 
   -- dataCell and rank, over the places that hold data
   cell-is : (d : ℕ) → dataCell c d ≡ dataOrder c (select (c .n1 * c .n2) (dataAt c) d)
@@ -210,77 +214,3 @@ module _ (c : Code) (F : Formed c) where
         ∙ cell-is (countBelow (dataOrder c t) (dataAt c))
         ∙ ap (dataOrder c) (select-count (c .n1 * c .n2) (dataAt c) (dataOrder c t) (order-below c t l) holds)
         ∙ order-twice c t l
-
--- ---- sheets by their check cells and their data
-
-module _ (c : Code) (F : Formed c) where
-  -- the columns of the sheet are some
-  pub width-pos : 0 < c .n2
-  width-pos = let a : c .b2 ≤ c .n2 = F .n2-least in let b : 1 ≤ c .b2 = F .b2-pos in omega arith
-
-  pub data-cells : (s t : Cells) → SameCells c s t → (d : ℕ) → d < dataSize c → dataOf c s d ≡ dataOf c t d
-  unfolding dataOf
-  data-cells s t h d l =
-      h (dataCell c d / c .n2) (dataCell c d % c .n2) (div-lt-iff-lt-mul width-pos .1 (data-below c F d l)) (mod-lt (dataCell c d) width-pos)
-
-  -- a cell that is no check cell holds a data bit
-  pub cell-data : (s : Cells) (i j : ℕ) → i < c .n1 → j < c .n2 → checkAt c (cellNumber c i j) ≡ false
-      → s i j ≡ dataOf c s (rank c (dataOrder c (cellNumber c i j)))
-  unfolding dataOf
-  cell-data s i j li lj f =
-      sym (ap (λ (t : ℕ). s (t / c .n2) (t % c .n2)) (rank-data c F (cellNumber c i j) (number-on c i j lj li) f)
-      ∙ ap₂ s (number-row c i j lj) (number-column c i j lj))
-
-  -- a check cell is in the list
-  pub cell-check : (i j : ℕ) → i < c .n1 → j < c .n2 → checkAt c (cellNumber c i j) ≡ true
-      → (k : ℕ) × (k < c .rv + c .rh) × (c .checkRow k ≡ i) × (c .checkColumn k ≡ j)
-  unfolding checkNumber
-  cell-check i j li lj t =
-      let w = check-found c F (cellNumber c i j) t in
-      let k = w .0 in
-      let lk : k < c .rv + c .rh = w .1 in
-      let e : cellNumber c (c .checkRow k) (c .checkColumn k) ≡ cellNumber c i j = w .2 in
-      let lc : c .checkColumn k < c .n2 = F .check-columns k lk in (
-        k,
-        lk,
-        sym (number-row c (c .checkRow k) (c .checkColumn k) lc) ∙ ap (λ (t : ℕ). t / c .n2) e ∙ number-row c i j lj,
-        sym (number-column c (c .checkRow k) (c .checkColumn k) lc) ∙ ap (λ (t : ℕ). t % c .n2) e ∙ number-column c i j lj,
-      )
-
-  -- a sheet is known by its check cells and its data
-  pub same-cells : (s t : Cells) → ((k : ℕ) → k < c .rv + c .rh → s (c .checkRow k) (c .checkColumn k) ≡ t (c .checkRow k) (c .checkColumn k))
-      → ((d : ℕ) → d < dataSize c → dataOf c s d ≡ dataOf c t d) → SameCells c s t
-  same-cells s t checks bits i j li lj = go (true-or-false (checkAt c (cellNumber c i j)))
-    where
-      go : Truth (checkAt c (cellNumber c i j)) → s i j ≡ t i j
-      go (is-true e) =
-          let w = cell-check i j li lj e in
-          sym (ap₂ s (w .2) (w .3)) ∙ checks (w .0) (w .1) ∙ ap₂ t (w .2) (w .3)
-      go (is-false e) =
-          cell-data s i j li lj e
-          ∙ bits (rank c (dataOrder c (cellNumber c i j))) (rank-below c F (cellNumber c i j) (number-on c i j lj li) e)
-          ∙ sym (cell-data t i j li lj e)
-
-  pub fill-check : (x : Bits) (y k : ℕ) → k < c .rv + c .rh → fill c x y (c .checkRow k) (c .checkColumn k) ≡ bit y k
-  unfolding fill checkNumber
-  fill-check x y k l =
-      ap (λ (b : Bool). cond b (bit y (checkIndex c (checkNumber c k))) (x (rank c (dataOrder c (checkNumber c k))))) (check-here c F k l)
-      ∙ ap (bit y) (check-index c F k l)
-
-  pub data-fill : (x : Bits) (y d : ℕ) → d < dataSize c → dataOf c (fill c x y) d ≡ x d
-  unfolding dataOf fill
-  data-fill x y d l =
-      ap (λ (t : ℕ). cond (checkAt c t) (bit y (checkIndex c t)) (x (rank c (dataOrder c t)))) (number-cell c (dataCell c d))
-      ∙ ap (λ (b : Bool). cond b (bit y (checkIndex c (dataCell c d))) (x (rank c (dataOrder c (dataCell c d))))) (data-free c F d l)
-      ∙ ap x (data-rank c F d l)
-
-  pub fill-back : (s : Cells) → SameCells c s (fill c (dataOf c s) (numberOf (c .rv + c .rh) (λ k. s (c .checkRow k) (c .checkColumn k))))
-  fill-back s =
-      same-cells s (fill c (dataOf c s) y) (λ k l. sym (fill-check (dataOf c s) y k l ∙ bit-number (c .rv + c .rh) checks k l))
-      (λ d l. sym (data-fill (dataOf c s) y d l))
-    where
-      checks : ℕ → Bool
-      checks k = s (c .checkRow k) (c .checkColumn k)
-
-      y : ℕ
-      y = numberOf (c .rv + c .rh) checks

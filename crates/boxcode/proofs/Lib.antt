@@ -1,10 +1,13 @@
 -- The theorems about the definitions of specs/.
 pub mod Image
 pub mod Syndrome
+pub mod Pattern
+pub mod Burst
 pub mod Separated
-pub mod Unique
+pub mod Condition
 pub mod Trial
 pub mod Check
+pub mod Fill
 pub mod Written
 pub mod Reader
 pub mod Report

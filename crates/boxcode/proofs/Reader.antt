@@ -18,10 +18,10 @@ use Rattle.boxcode.specs.Check.{dataSize, dataOf}
 use Rattle.boxcode.specs.Reader.{mendable, change, mended}
 use Rattle.finite.proofs.Truth.{clash, not-true, xor-back}
 use Rattle.boxcode.proofs.Syndrome.{belongs-cells}
-use Rattle.boxcode.proofs.Separated.{Separated}
-use Rattle.boxcode.proofs.Unique.{fits-row, fits-column, sums-fit, fits-unique}
+use Rattle.boxcode.proofs.Separated.{Separated, fits-unique}
+use Rattle.boxcode.proofs.Burst.{fits-row, fits-column, sums-fit}
 use Rattle.boxcode.proofs.Trial.{Found, found, has-burst}
-use Rattle.boxcode.proofs.Check.{data-cells}
+use Rattle.boxcode.proofs.Fill.{data-cells}
 
 module _ (c : Code) (F : Formed c) (s : Cells) where
   pub fits-mendable : (e : Cells) → Burst c e → Fits c s e → mendable c s ≡ true

@@ -1,19 +1,19 @@
 -- The report of a set of cells:
 --
---   report-cells          equal cells on the sheet give equal reports
---   cells-flat            the number of cells, by cell numbers
---   Some                  the set has a cell on the sheet
---   report-inside         a set on the sheet lies in the rectangle of its report
---   report-least          any rectangle that holds the set holds that one
---   report-none           the empty set has five zeros
+--   cells-equal, cells-flat, cells-some, cells-none   the number of cells: by cell numbers, and where it is 0
 --   box-count             a set in a rectangle has at most height × width cells
---   burst-report          of a burst: at most 16 cells, on the sheet, no larger than b1 by b2
+--   nothing               five zeros
+--   report-cells          equal cells on the sheet give equal reports
+--   report-inside         a set on the sheet lies in the rectangle of its report
+--   report-least, Holds   any rectangle that holds the set holds that one
+--   report-none           the empty set has five zeros
+--   burst-report, Small   of a burst: at most 16 cells, on the sheet, no larger than b1 by b2
 --
 -- Assumes nothing.
 use mathlib.Core.Path.{_≡_, refl, sym, ap, ap₂, _∙_}
 use mathlib.Core.Bool.{Bool, true, false}
 use Prim.Native.Nat.{ℕ, zero, suc, _+_, _-_, _*_, _/_, _%_, _≤_, _<_}
-use native.Mathlib.Nat.{lt-suc-self, suc-mul, zero-mul, mul-le-mul, mul-le-mul-right}
+use native.Mathlib.Nat.{lt-suc-self, suc-mul, zero-mul, mul-le-mul, mul-le-mul-right, le-trans}
 use native.Mathlib.Omega.{arith}
 use lib.Arith.{digits-lt, digits-div, digits-mod}
 use Rattle.finite.specs.Search.{anyBelow, countBelow, firstOf, pastOf}
@@ -24,7 +24,7 @@ use Rattle.boxcode.specs.Reader.{Report, cellsIn, inRow, inColumn, repor
 use Rattle.finite.proofs.Truth.{Truth, is-true, is-false, true-or-false, clash, not-true}
 use Rattle.finite.proofs.Search.{any-found, any-here, any-none, none-any, any-equal, first-is, first-none, first-equal, past-le, past-above, past-last, past-none, past-equal}
 use Rattle.finite.proofs.Count.{count-equal, count-none, count-rise, count-split, count-run}
-use Rattle.boxcode.proofs.Unique.{OnSheet}
+use Rattle.boxcode.proofs.Burst.{OnSheet}
 
 -- ---- the number of cells
 
@@ -152,7 +152,8 @@ pub record Holds (top left height width : ℕ) (r : Report) : Type 0 where
 
 -- the numbers of a report of a burst, in their ranges
 pub record Small (c : Code) (r : Report) : Type 0 where
-  pub cells-most : r .cells ≤ c .b1 * c .b2
+  pub cells-box : r .cells ≤ c .b1 * c .b2
+  pub cells-most : r .cells ≤ 16
   pub top-on : r .top < c .n1
   pub left-on : r .left < c .n2
   pub height-most : r .height ≤ c .b1
@@ -227,8 +228,10 @@ module _ (c : Code) where
   pub report-none : (e : Cells) → ((i j : ℕ) → i < c .n1 → j < c .n2 → e i j ≡ false) → reportOf c e ≡ nothing
   unfolding reportOf nothing
   report-none e h =
-      let r : anyBelow (c .n1) (inRow c e) ≡ false = none-any (c .n1) (inRow c e) (λ i l. not-true (inRow c e i) (λ t. let w = has-row e i t in clash (w .2) (h i (w .0) l (w .1)))) in
-      let k : anyBelow (c .n2) (inColumn c e) ≡ false = none-any (c .n2) (inColumn c e) (λ j l. not-true (inColumn c e j) (λ t. let w = has-column e j t in clash (w .2) (h (w .0) j (w .1) l))) in
+      let r : anyBelow (c .n1) (inRow c e) ≡ false =
+        none-any (c .n1) (inRow c e) (λ i l. not-true (inRow c e i) (λ t. let w = has-row e i t in clash (w .2) (h i (w .0) l (w .1)))) in
+      let k : anyBelow (c .n2) (inColumn c e) ≡ false =
+        none-any (c .n2) (inColumn c e) (λ j l. not-true (inColumn c e j) (λ t. let w = has-column e j t in clash (w .2) (h (w .0) j (w .1) l))) in
       λ i. record {
         cells = cells-none (c .n1) (c .n2) e h i;
         top = first-none (c .n1) (inRow c e) r i;
@@ -239,23 +242,30 @@ module _ (c : Code) where
 
   pub burst-report : Formed c → (e : Cells) → Burst c e → Small c (reportOf c e)
   unfolding reportOf
-  burst-report F e B =
-      let p1 : 1 ≤ c .b1 = F .b1-pos in
-      let p2 : 1 ≤ c .b2 = F .b2-pos in
-      let q1 : c .b1 ≤ c .n1 = F .n1-least in
-      let q2 : c .b2 ≤ c .n2 = F .n2-least in
-      let r = run-bounds (c .n1) (inRow c e) (B .top) (c .b1) (omega arith) (from-row (B .top) (B .left) (c .b1) (c .b2) e (B .inside)) (to-row (B .top) (B .left) (c .b1) (c .b2) e (B .inside)) in
-      let k = run-bounds (c .n2) (inColumn c e) (B .left) (c .b2) (omega arith) (from-column (B .top) (B .left) (c .b1) (c .b2) e (B .inside)) (to-column (B .top) (B .left) (c .b1) (c .b2) e (B .inside)) in
-      record {
-        cells-most = box-count (B .top) (B .left) (c .b1) (c .b2) e (B .inside) (c .n1) (c .n2);
-        top-on = r .0;
-        left-on = k .0;
-        height-most = r .1;
-        width-most = k .1;
-        rows-on = r .2;
-        columns-on = k .2;
+  burst-report F e B = record
+      { cells-box = box
+      ; cells-most = le-trans box sixteen
+      ; top-on = r .0
+      ; left-on = k .0
+      ; height-most = r .1
+      ; width-most = k .1
+      ; rows-on = r .2
+      ; columns-on = k .2
       }
+    where
+      box : cellsIn (c .n1) (c .n2) e ≤ c .b1 * c .b2
+      box = box-count (B .top) (B .left) (c .b1) (c .b2) e (B .inside) (c .n1) (c .n2)
 
--- a burst has at most 16 cells
-pub sixteen : (c : Code) → Formed c → c .b1 * c .b2 ≤ 16
-sixteen c F = mul-le-mul (F .b1-most) (F .b2-most)
+      sixteen : c .b1 * c .b2 ≤ 16
+      sixteen = mul-le-mul (F .b1-most) (F .b2-most)
+
+      r : (firstOf (c .n1) (inRow c e) < c .n1) × (size (c .n1) (inRow c e) ≤ c .b1) × (firstOf (c .n1) (inRow c e) + size (c .n1) (inRow c e) ≤ c .n1)
+      r =
+          run-bounds (c .n1) (inRow c e) (B .top) (c .b1) (le-trans (F .b1-pos) (F .n1-least))
+          (from-row (B .top) (B .left) (c .b1) (c .b2) e (B .inside)) (to-row (B .top) (B .left) (c .b1) (c .b2) e (B .inside))
+
+      k : (firstOf (c .n2) (inColumn c e) < c .n2) × (size (c .n2) (inColumn c e) ≤ c .b2)
+          × (firstOf (c .n2) (inColumn c e) + size (c .n2) (inColumn c e) ≤ c .n2)
+      k =
+          run-bounds (c .n2) (inColumn c e) (B .left) (c .b2) (le-trans (F .b2-pos) (F .n2-least))
+          (from-column (B .top) (B .left) (c .b1) (c .b2) e (B .inside)) (to-column (B .top) (B .left) (c .b1) (c .b2) e (B .inside))

@@ -19,9 +19,9 @@ use Rattle.boxcode.specs.Syndrome.{Cells, Belongs, flip, SameCells}
 use Rattle.boxcode.specs.Burst.{Burst, Fits}
 use Rattle.boxcode.specs.Check.{Bits, dataSize, written, dataOf}
 use Rattle.boxcode.specs.Reader.{mendable, change, mended, reportOf}
-use Rattle.boxcode.proofs.Separated.{Separated, separated}
-use Rattle.boxcode.proofs.Unique as Unique
-use Rattle.boxcode.proofs.Check.{data-cells}
+use Rattle.boxcode.proofs.Separated.{Separated, fits-unique}
+use Rattle.boxcode.proofs.Condition.{separated}
+use Rattle.boxcode.proofs.Fill.{data-cells}
 use Rattle.boxcode.proofs.Written as Written
 use Rattle.boxcode.proofs.Written.{Spans, Writable, writable}
 use Rattle.boxcode.proofs.Reader as Reader
@@ -53,7 +53,7 @@ module _ (c : Code) (F : Formed c) (s : Cells) where
 module _ (c : Code) (F : Formed c) (K : Conditions c) where
   -- 01: "Under an accepted plan at most one blot, as a set of cells, fits"
   pub at-most-one : (s e e' : Cells) → Burst c e → Burst c e' → Fits c s e → Fits c s e' → (i j : ℕ) → e i j ≡ e' i j
-  at-most-one = Unique.fits-unique c (separated c F K)
+  at-most-one = fits-unique c (separated c F K)
 
 module _ (spans : Spans) (c : Code) (F : Formed c) (K : Conditions c) where
   W : Writable c

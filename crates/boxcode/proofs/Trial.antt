@@ -13,20 +13,18 @@ use mathlib.Core.Bool.{Bool, true, _&&_}
 use Prim.Native.Nat.{ℕ, _+_, _-_, _*_, _/_, _%_, _≤_, _<_}
 use native.Mathlib.Nat.{mod-lt, div-lt-iff-lt-mul}
 use native.Mathlib.Omega.{arith}
-use lib.Dec.{eqb}
 use lib.Arith.{digits-lt, digits-div, digits-mod}
 use lib.Pow.{pow-pos}
-use borrow.Author.Tests.{eqb-true, eq-eqb, ltb-true, lt-ltb}
+use borrow.Author.Tests.{ltb-true, lt-ltb}
 use Rattle.finite.specs.Search.{bit, within, least, numberOf}
 use Rattle.boxcode.specs.Code.{Code, Formed}
-use Rattle.boxcode.specs.Syndrome.{Cells, rowSyndrome, columnSyndrome}
+use Rattle.boxcode.specs.Syndrome.{Cells, rowSyndrome, columnSyndrome, SameCells}
 use Rattle.boxcode.specs.Burst.{Inside, Burst, boxCells, patterns, lefts, trials, trialCells, tried, hasBurst, burstFor}
-use Rattle.finite.proofs.Truth.{same-truth, and-left, and-right, and-both, within-from, within-to, in-within}
+use Rattle.finite.proofs.Truth.{both-equal, equal-both, same-truth, and-left, and-right, and-both, within-from, within-to, in-within}
 use Rattle.finite.proofs.Search.{least-found, least-most}
 use Rattle.finite.proofs.Digits.{number-below, bit-number}
 use Rattle.boxcode.proofs.Syndrome.{row-cells, column-cells}
-use Rattle.boxcode.proofs.Separated.{Separated}
-use Rattle.boxcode.proofs.Unique.{unique}
+use Rattle.boxcode.proofs.Separated.{Separated, unique}
 
 -- ---- patterns of a rectangle
 
@@ -146,23 +144,10 @@ pub record Found (c : Code) (v h : ℕ) (e : Cells) : Type 0 where
 module _ (c : Code) (F : Formed c) (v h : ℕ) where
   pub found : hasBurst c v h ≡ true → Found c v h (burstFor c v h)
   unfolding hasBurst burstFor tried
-  found t = record {
-    burst = trial-burst c F (least (trials c) (tried c v h)) below;
-    row = eqb-true (rowSyndrome c (burstFor c v h)) v (and-left rows columns holds);
-    column = eqb-true (columnSyndrome c (burstFor c v h)) h (and-right rows columns holds);
-  }
-    where
-      below : least (trials c) (tried c v h) < trials c
-      below = ltb-true (least (trials c) (tried c v h)) (trials c) t
-
-      rows : Bool
-      rows = eqb (rowSyndrome c (burstFor c v h)) v
-
-      columns : Bool
-      columns = eqb (columnSyndrome c (burstFor c v h)) h
-
-      holds : (rows && columns) ≡ true
-      holds = least-found (trials c) (tried c v h) below
+  found t =
+      let below : least (trials c) (tried c v h) < trials c = ltb-true (least (trials c) (tried c v h)) (trials c) t in
+      let sums = both-equal (rowSyndrome c (burstFor c v h)) (columnSyndrome c (burstFor c v h)) v h (least-found (trials c) (tried c v h) below) in
+      record { burst = trial-burst c F (least (trials c) (tried c v h)) below; row = sums .0; column = sums .1 }
 
   pub has-burst : (e : Cells) → Found c v h e → hasBurst c v h ≡ true
   unfolding hasBurst tried
@@ -170,12 +155,11 @@ module _ (c : Code) (F : Formed c) (v h : ℕ) where
       let w = burst-trial c F e (f .burst) in
       let t = w .0 in
       let l : t < trials c = w .1 in
-      let row : eqb (rowSyndrome c (trialCells c t)) v ≡ true =
-      eq-eqb (rowSyndrome c (trialCells c t)) v (row-cells c (trialCells c t) e (λ i j li lj. w .2 i j) ∙ f .row) in
-      let column : eqb (columnSyndrome c (trialCells c t)) h ≡ true =
-      eq-eqb (columnSyndrome c (trialCells c t)) h (column-cells c (trialCells c t) e (λ i j li lj. w .2 i j) ∙ f .column) in
+      let cells : SameCells c (trialCells c t) e = λ i j li lj. w .2 i j in
       let m : least (trials c) (tried c v h) ≤ t =
-      least-most (trials c) (tried c v h) t (and-both (eqb (rowSyndrome c (trialCells c t)) v) (eqb (columnSyndrome c (trialCells c t)) h) row column) in
+        least-most (trials c) (tried c v h) t
+        (equal-both (rowSyndrome c (trialCells c t)) (columnSyndrome c (trialCells c t)) v h
+        (row-cells c (trialCells c t) e cells ∙ f .row) (column-cells c (trialCells c t) e cells ∙ f .column)) in
       lt-ltb (least (trials c) (tried c v h)) (trials c) (omega arith)
 
   pub burst-is : Separated c → (e : Cells) → Found c v h e → (i j : ℕ) → burstFor c v h i j ≡ e i j

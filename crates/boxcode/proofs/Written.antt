@@ -7,6 +7,7 @@
 --   Writable         writing is possible: the written sheet belongs, and a belonging sheet is known by its data
 --   writable         a code that meets the conditions is writable
 --   written-only     the written sheet is the only sheet that belongs and holds its data
+--   written-back, written-equal   writing what was read gives the sheet back; equal data give the same sheet
 --
 -- Assumes nothing but what it takes as Spans.
 use mathlib.Core.Path.{_≡_, refl, sym, ap, ap₂, _∙_}
@@ -14,8 +15,6 @@ use mathlib.Core.Bool.{Bool, true, false, xor}
 use Prim.Native.Nat.{ℕ, _+_, _*_, _/_, _%_, _^_, _≤_, _<_}
 use native.Mathlib.Nat.{div-lt-iff-lt-mul, mod-lt}
 use native.Mathlib.Omega.{arith}
-use lib.Dec.{eqb}
-use borrow.Author.Tests.{eqb-true, eq-eqb}
 use Rattle.gf2.specs.Xor.{_⊕_, pick}
 use Rattle.gf2.specs.Sum.{chosenSum}
 use Rattle.gf2.specs.Independence.{Independent}
@@ -27,12 +26,13 @@ use Rattle.boxcode.specs.Condition.{Conditions, everyone}
 use Rattle.boxcode.specs.Syndrome.{Cells, weightSum, rowSyndrome, columnSyndrome, Belongs, flip, SameCells}
 use Rattle.boxcode.specs.Check.{Bits, checkNumber, checkAt, dataSize, fill, belongs, written, dataOf}
 use Rattle.finite.proofs.Truth as truth
-use Rattle.finite.proofs.Truth.{and-left, and-right, and-both, not-true, xor-equal}
+use Rattle.finite.proofs.Truth.{both-equal, equal-both, not-true, xor-equal}
 use Rattle.finite.proofs.Search.{least-found, least-most}
 use Rattle.finite.proofs.Digits.{number-below, bit-number}
 use Rattle.boxcode.proofs.Image.{sum-image, unpicked}
 use Rattle.boxcode.proofs.Syndrome.{weight-flip, weight-flat, weight-below, joint-below, joint-belongs, belongs-joint}
-use Rattle.boxcode.proofs.Check.{number-row, number-column, number-cell, check-listed, check-found, cell-data, rank-below, same-cells, fill-check, data-fill, width-pos}
+use Rattle.boxcode.proofs.Check.{check-row, check-column, number-cell, check-listed, check-found, rank-below}
+use Rattle.boxcode.proofs.Fill.{checkCell, SameData, cell-data, same-cells, fill-check, data-fill, width-pos}
 
 -- the one fact of algebra that is still to come
 abbrev pub Spans : Type 0
@@ -45,25 +45,23 @@ jointSum c s = weightSum (c .n1) (c .n2) (jointWeight c) s
 
 pub belongs-true : (c : Code) (s : Cells) → belongs c s ≡ true → Belongs c s
 unfolding belongs
-belongs-true c s t = record {
-  row-zero = eqb-true (rowSyndrome c s) 0 (and-left (eqb (rowSyndrome c s) 0) (eqb (columnSyndrome c s) 0) t);
-  column-zero = eqb-true (columnSyndrome c s) 0 (and-right (eqb (rowSyndrome c s) 0) (eqb (columnSyndrome c s) 0) t);
-}
+belongs-true c s t =
+    let sums = both-equal (rowSyndrome c s) (columnSyndrome c s) 0 0 t in
+    record { row-zero = sums .0; column-zero = sums .1 }
 
 pub true-belongs : (c : Code) (s : Cells) → Belongs c s → belongs c s ≡ true
 unfolding belongs
-true-belongs c s b =
-    and-both (eqb (rowSyndrome c s) 0) (eqb (columnSyndrome c s) 0) (eq-eqb (rowSyndrome c s) 0 (b .row-zero)) (eq-eqb (columnSyndrome c s) 0 (b .column-zero))
+true-belongs c s b = equal-both (rowSyndrome c s) (columnSyndrome c s) 0 0 (b .row-zero) (b .column-zero)
 
 module _ (c : Code) (F : Formed c) where
   -- of a set that has check cells only
   pub checks-sum : (e : Cells) → ((d : ℕ) → d < dataSize c → dataOf c e d ≡ false)
-      → jointSum c e ≡ chosenSum (c .rv + c .rh) (λ k. e (c .checkRow k) (c .checkColumn k)) (checkJoint c)
+      → jointSum c e ≡ chosenSum (c .rv + c .rh) (checkCell c e) (checkJoint c)
   unfolding checkJoint
   checks-sum e none =
       weight-flat (c .n1) (c .n2) (jointWeight c) e
       ∙ sum-image (c .rv + c .rh) (c .n1 * c .n2) (checkNumber c) (check-listed c F) (λ t. at (t / c .n2) (t % c .n2)) (λ k. at (c .checkRow k) (c .checkColumn k))
-      (λ k l. unfold checkNumber in ap₂ at (number-row c (c .checkRow k) (c .checkColumn k) (F .check-columns k l)) (number-column c (c .checkRow k) (c .checkColumn k) (F .check-columns k l)))
+      (λ k l. ap₂ at (check-row c F k l) (check-column c F k l))
       (λ t l miss. unpicked (e (t / c .n2) (t % c .n2)) (jointWeight c (t / c .n2) (t % c .n2)) (off t l miss))
     where
       at : ℕ → ℕ → ℕ
@@ -80,20 +78,20 @@ module _ (c : Code) (F : Formed c) where
           ∙ none _ (rank-below c F (cellNumber c i j) (omega arith) f)
 
   -- two sheets with the same data differ in check cells only
-  apart-data : (s s' : Cells) → ((d : ℕ) → d < dataSize c → dataOf c s d ≡ dataOf c s' d) → (d : ℕ) → d < dataSize c → dataOf c (flip s s') d ≡ false
+  apart-data : (s s' : Cells) → SameData c s s' → (d : ℕ) → d < dataSize c → dataOf c (flip s s') d ≡ false
   unfolding dataOf
   apart-data s s' same d l = ap (λ (b : Bool). xor b (dataOf c s' d)) (same d l) ∙ truth.xor-self (dataOf c s' d)
 
-  apart-sum : (s s' : Cells) → ((d : ℕ) → d < dataSize c → dataOf c s d ≡ dataOf c s' d)
-      → jointSum c s ⊕ jointSum c s' ≡ chosenSum (c .rv + c .rh) (λ k. xor (s (c .checkRow k) (c .checkColumn k)) (s' (c .checkRow k) (c .checkColumn k))) (checkJoint c)
+  apart-sum : (s s' : Cells) → SameData c s s'
+      → jointSum c s ⊕ jointSum c s' ≡ chosenSum (c .rv + c .rh) (λ k. xor (checkCell c s k) (checkCell c s' k)) (checkJoint c)
   apart-sum s s' same = sym (weight-flip (c .n1) (c .n2) (jointWeight c) s s') ∙ checks-sum (flip s s') (apart-data s s' same)
 
-  pub belongs-only : Conditions c → (s s' : Cells) → Belongs c s → Belongs c s' → ((d : ℕ) → d < dataSize c → dataOf c s d ≡ dataOf c s' d) → SameCells c s s'
+  pub belongs-only : Conditions c → (s s' : Cells) → Belongs c s → Belongs c s' → SameData c s s' → SameCells c s s'
   belongs-only K s s' b b' same =
       same-cells c F s s'
       (λ k l.
-      xor-equal (s (c .checkRow k) (c .checkColumn k)) (s' (c .checkRow k) (c .checkColumn k))
-      (K .checks (λ k. xor (s (c .checkRow k) (c .checkColumn k)) (s' (c .checkRow k) (c .checkColumn k))) (λ k t. refl)
+      xor-equal (checkCell c s k) (checkCell c s' k)
+      (K .checks (λ k. xor (checkCell c s k) (checkCell c s' k)) (λ k t. refl)
       (sym (apart-sum s s' same) ∙ ap₂ _⊕_ (belongs-joint c F s b) (belongs-joint c F s' b') ∙ xor-self 0)
       k l))
       same
@@ -127,7 +125,7 @@ module _ (c : Code) (F : Formed c) where
       y : ℕ
       y = numberOf r mask
 
-      turned : (k : ℕ) → k < r → xor (fill c x y (c .checkRow k) (c .checkColumn k)) (fill c x 0 (c .checkRow k) (c .checkColumn k)) ≡ way .0 k
+      turned : (k : ℕ) → k < r → xor (checkCell c (fill c x y) k) (checkCell c (fill c x 0) k) ≡ way .0 k
       turned k l =
           ap₂ xor (fill-check c F x y k l ∙ bit-number r mask k l) (fill-check c F x 0 k l) ∙ truth.xor-back (way .0 k) (bit 0 k)
 
@@ -136,7 +134,7 @@ module _ (c : Code) (F : Formed c) where
           sym (add-back (jointSum c (fill c x y)) v)
           ∙ ap (λ (z : ℕ). z ⊕ v)
           (apart-sum (fill c x y) (fill c x 0) (λ d l. data-fill c F x y d l ∙ sym (data-fill c F x 0 d l))
-          ∙ sum-equal r (λ k. pick (xor (fill c x y (c .checkRow k) (c .checkColumn k)) (fill c x 0 (c .checkRow k) (c .checkColumn k))) (checkJoint c k))
+          ∙ sum-equal r (λ k. pick (xor (checkCell c (fill c x y) k) (checkCell c (fill c x 0) k)) (checkJoint c k))
           (λ k. pick (way .0 k) (checkJoint c k)) (λ k l. ap (λ (b : Bool). pick b (checkJoint c k)) (turned k l))
           ∙ way .1)
           ∙ xor-self v
@@ -153,7 +151,7 @@ module _ (c : Code) (F : Formed c) where
 -- data and the sheets that belong are one to one
 pub record Writable (c : Code) : Type 0 where
   pub belongs : (x : Bits) → Belongs c (written c x)
-  pub only : (s s' : Cells) → Belongs c s → Belongs c s' → ((d : ℕ) → d < dataSize c → dataOf c s d ≡ dataOf c s' d) → SameCells c s s'
+  pub only : (s s' : Cells) → Belongs c s → Belongs c s' → SameData c s s' → SameCells c s s'
 
 pub writable : Spans → (c : Code) → Formed c → Conditions c → Writable c
 writable spans c F K = record { belongs = written-belongs c F spans K; only = belongs-only c F K }
@@ -161,3 +159,10 @@ writable spans c F K = record { belongs = written-belongs c F spans K; only = be
 pub written-only : (c : Code) → Formed c → Writable c → (x : Bits) (s : Cells) → Belongs c s → ((d : ℕ) → d < dataSize c → dataOf c s d ≡ x d)
     → SameCells c s (written c x)
 written-only c F W x s b same = W .only s (written c x) b (W .belongs x) (λ d l. same d l ∙ sym (written-data c F x d l))
+
+-- writing what was read gives the sheet back, and equal data give the same sheet
+pub written-back : (c : Code) → Formed c → Writable c → (s : Cells) → Belongs c s → SameCells c s (written c (dataOf c s))
+written-back c F W s b = written-only c F W (dataOf c s) s b (λ d l. refl)
+
+pub written-equal : (c : Code) → Formed c → Writable c → (x x' : Bits) → ((d : ℕ) → d < dataSize c → x d ≡ x' d) → SameCells c (written c x) (written c x')
+written-equal c F W x x' same = written-only c F W x' (written c x) (W .belongs x) (λ d l. written-data c F x d l ∙ same d l)

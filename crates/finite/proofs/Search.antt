@@ -1,6 +1,7 @@
 -- Laws of the searches of specs/Search.antt:
 --
 --   least-le, least-found, least-first, least-most, least-is, least-none, least-equal   the first place at which p holds
+--   least-last                                                                          with one place more
 --   search-finds, search-ends                                                           what a loop that tries them in turn has
 --   any-found, any-here, any-none, none-any, any-equal                                  some place at which p holds
 --   first-is, first-none, first-equal                                                   the first, or 0
@@ -13,6 +14,7 @@ use Prim.Native.Nat.{ℕ, zero, suc, _≤_, _<_}
 use native.Mathlib.Nat.{zero-lt-suc, lt-suc-self}
 use native.Mathlib.Decide.{ℕ-discrete, decLt}
 use native.Mathlib.Omega.{arith}
+use lib.Dec.{eqb, eqb·zero-suc, eqb·suc-suc}
 use Rattle.finite.specs.Search.{least, anyBelow, firstOf, pastOf}
 use Rattle.finite.proofs.Truth.{clash, not-true, or-left, or-right, or-cases}
 
@@ -194,3 +196,22 @@ search-finds n p k l before here = sym (least-is n p k l here before)
 
 pub search-ends : (n : ℕ) (p : ℕ → Bool) (k : ℕ) → k ≤ n → n ≤ k → ((j : ℕ) → j < k → p j ≡ false) → k ≡ least n p
 search-ends n p k l m before = sym (least-none n p (λ j lj. before j (omega arith)) ∙ omega arith)
+
+-- with one number more: the same if it was found, else that number or none
+pub least-last : (n : ℕ) (p : ℕ → Bool) → least (suc n) p ≡ cond (eqb (least n p) n) (cond (p n) n (suc n)) (least n p)
+unfolding least
+least-last zero p = refl
+least-last (suc n) p =
+    go (p 0) (ap suc (least-last n (λ k. p (suc k))))
+  where
+    go : (t : Bool)
+        → suc (least (suc n) (λ k. p (suc k))) ≡ suc (cond (eqb (least n (λ k. p (suc k))) n) (cond (p (suc n)) n (suc n)) (least n (λ k. p (suc k))))
+        → cond t 0 (suc (least (suc n) (λ k. p (suc k))))
+            ≡ cond (eqb (cond t 0 (suc (least n (λ k. p (suc k))))) (suc n)) (cond (p (suc n)) (suc n) (suc (suc n))) (cond t 0 (suc (least n (λ k. p (suc k)))))
+    go true ih = rw (eqb·zero-suc n)
+    go false ih = ih ∙ rw (eqb·suc-suc (least n (λ k. p (suc k))) n) (split (eqb (least n (λ k. p (suc k))) n) (p (suc n)))
+      where
+        split : (s t : Bool) → suc (cond s (cond t n (suc n)) (least n (λ k. p (suc k)))) ≡ cond s (cond t (suc n) (suc (suc n))) (suc (least n (λ k. p (suc k))))
+        split true true = refl
+        split true false = refl
+        split false t = refl

@@ -4,14 +4,16 @@
 --   or-cases, or-left, or-right     a disjunction is true exactly where one part is
 --   or-false                        and false where both are
 --   same-truth                      two values are equal if each is true where the other is
+--   both, either                    a true conjunction and a true disjunction taken apart
 --   true-or-false                   every value is one or the other, with the equation
---   clash                           no value is both
+--   clash, never                    no value is both
 --   xor-equal, xor-none, xor-self, xor-back   differences of truth values
 --   within-from, within-to, in-within         the numbers of a run
 --
 -- Assumes nothing.
 use mathlib.Core.Path.{_≡_, refl, sym, _∙_}
 use mathlib.Core.Bool.{Bool, true, false, _&&_, _||_, xor, true≢false}
+use mathlib.Core.Logic.{_⊎_, inl, inr}
 use Prim.Native.Nat.{ℕ, _+_, _≤_, _<_}
 use lib.Dec.{leb, ltb}
 use borrow.Author.Tests.{leb-true, ltb-true, le-leb, lt-ltb}
@@ -28,6 +30,18 @@ true-or-false false = is-false refl
 
 pub clash {ℓ} : {A : Type ℓ} {b : Bool} → b ≡ true → b ≡ false → A
 clash p q = absurd (true≢false (sym p ∙ q))
+
+-- true and false are different
+pub never : (b : Bool) → b ≡ true → b ≡ false → ⊥
+never b p q = clash p q
+
+pub both : (a b : Bool) → (a && b) ≡ true → (a ≡ true) × (b ≡ true)
+both true b e = (refl, e)
+both false b e = clash e refl
+
+pub either : (a b : Bool) → (a || b) ≡ true → (a ≡ true) ⊎ (b ≡ true)
+either true b e = inl refl
+either false b e = inr e
 
 pub and-left : (a b : Bool) → (a && b) ≡ true → a ≡ true
 and-left true b e = refl

@@ -1,7 +1,7 @@
 -- Laws of exclusive-or and of `pick`. They are named by their shape:
 --
---   xor-is, xor-comm, xor-assoc, xor-self, xor-zero-left, xor-zero-right, xor-swap, xor-cancel, xor-back,
---   xor-below (a bound by a power of two), pick-xor, pick-zero, pick-below, pick-differ
+--   xor-is, xor-comm, xor-assoc, xor-self, xor-zero-left, xor-zero-right, xor-swap, xor-cancel, xor-back, xor-again,
+--   xor-below (a bound by a power of two), parity, pick-xor, pick-zero, pick-below, pick-differ
 --
 -- Assumes nothing.
 use mathlib.Core.Path.{_≡_, refl, sym, ap, ap₂, _∙_}
@@ -50,8 +50,9 @@ differ-assoc (suc zero) (suc zero) (suc (suc z)) hx hy hz = absurd (omega arith)
 differ-assoc (suc zero) (suc (suc y)) z hx hy hz = absurd (omega arith)
 differ-assoc (suc (suc x)) y z hx hy hz = absurd (omega arith)
 
-digit : (a b : ℕ) → bitXor a b % 2 ≡ differ (a % 2) (b % 2)
-digit a b = go (a % 2) (b % 2) (mod-lt a (zero-lt-suc 1)) (mod-lt b (zero-lt-suc 1)) (bits.xor-step a b)
+-- the lowest digit
+pub parity : (a b : ℕ) → bitXor a b % 2 ≡ differ (a % 2) (b % 2)
+parity a b = go (a % 2) (b % 2) (mod-lt a (zero-lt-suc 1)) (mod-lt b (zero-lt-suc 1)) (bits.xor-step a b)
   where
     go : (x y : ℕ) → x < 2 → y < 2 → bitXor a b ≡ bitXor (a / 2) (b / 2) * 2 + differ x y → bitXor a b % 2 ≡ differ x y
     go zero zero hx hy e = omega arith
@@ -70,9 +71,9 @@ assoc a =
     ∙ ap₂ (λ (x y : ℕ). x * 2 + y)
     (ap (λ (x : ℕ). bitXor x (c / 2)) (bits.xor-shr n b 1) ∙ ih (b / 2) (c / 2)
     ∙ ap (λ (x : ℕ). bitXor (n / 2) x) (sym (bits.xor-shr b c 1)))
-    (ap (λ (x : ℕ). differ x (c % 2)) (digit n b)
+    (ap (λ (x : ℕ). differ x (c % 2)) (parity n b)
     ∙ differ-assoc (n % 2) (b % 2) (c % 2) (mod-lt n (zero-lt-suc 1)) (mod-lt b (zero-lt-suc 1)) (mod-lt c (zero-lt-suc 1))
-    ∙ ap (λ (x : ℕ). differ (n % 2) x) (sym (digit b c)))
+    ∙ ap (λ (x : ℕ). differ (n % 2) x) (sym (parity b c)))
     ∙ sym (bits.xor-step n (bitXor b c)))
     a
 
@@ -90,6 +91,9 @@ xor-swap a b c d =
 -- adding a number twice changes nothing
 pub xor-back : (a b : ℕ) → (a ⊕ b) ⊕ b ≡ a
 xor-back a b = xor-assoc a b b ∙ ap (λ (x : ℕ). a ⊕ x) (xor-self b) ∙ xor-zero-right a
+
+pub xor-again : (a b : ℕ) → a ⊕ (a ⊕ b) ≡ b
+xor-again a b = sym (xor-assoc a a b) ∙ ap (λ (x : ℕ). x ⊕ b) (xor-self a) ∙ xor-zero-left b
 
 -- two numbers with exclusive-or 0 are equal
 pub xor-cancel : (a b : ℕ) → a ⊕ b ≡ 0 → a ≡ b

@@ -2,3 +2,6 @@
 pub mod Xor
 pub mod Sum
 pub mod Independence
+pub mod Vectors
+pub mod Basis
+pub mod Solver

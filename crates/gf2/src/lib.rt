@@ -1,1 +1,126 @@
 // Linear algebra over the field of two elements, on numbers of up to 64 bits. It knows nothing of sheets and plans.
+//
+// A basis is an array of 64 words: word k is 0, or a number whose leading digit is digit k. The laws about it are in proofs/Basis.antt.
+ghost use mathlib.Core.Path.{_≡_};
+ghost use lib.ListN.{replicate};
+ghost use Rattle.gf2.specs.Basis.{reduced, extended};
+ghost use Rattle.gf2.specs.Solver.{combined, solved, solverOf};
+
+// A basis after some vectors, and how many of them it took in before the first that it spanned already.
+pub struct Extended {
+    pub basis: [u64; 64],
+    pub taken: usize,
+}
+
+// What is left of v: the word at its leading digit is taken off as long as that makes it smaller. 0 where the basis spans v.
+pub fn reduce(basis: &[u64; 64], v: u64) -> u64
+    ensures { λ r. ⌜ r ≡ reduced (now (basis .entry)) v ⌝ }
+{
+    let mut left = v;
+    while left != 0 {
+        let k = (63 - u64::leading_zeros(left)) as usize;
+        let next = left ^ basis[k];
+        if left <= next {
+            return left;
+        }
+        left = next;
+    }
+    left
+}
+
+// The basis of no vectors.
+pub fn empty_basis() -> [u64; 64]
+    ensures { λ r. ⌜ r ≡ replicate 64 0 ⌝ }
+{
+    [0u64; 64]
+}
+
+// The basis with the members put in, one after another, up to the first that is spanned already.
+pub fn extend(basis: [u64; 64], members: &[u64]) -> Extended
+    ensures { λ r. ⌜ r ≡ extended basis (now (members .entry)) ⌝ }
+{
+    let mut b = basis;
+    let mut i = 0;
+    while i < members.len() {
+        let v = reduce(&b, members[i]);
+        if v == 0 {
+            return Extended { basis: b, taken: i };
+        }
+        let k = (63 - u64::leading_zeros(v)) as usize;
+        b[k] = v;
+        i += 1;
+    }
+    Extended { basis: b, taken: i }
+}
+
+// What is left of a vector, and the combination of members that was taken off it.
+struct Residue {
+    left: u64,
+    combo: u64,
+}
+
+// A basis, and for each word the combination of members that makes it: digit i is set where member i is in.
+pub struct Solver {
+    pub basis: [u64; 64],
+    pub combos: [u64; 64],
+}
+
+// The combination of members that makes a target, or that there is none.
+pub enum Solution {
+    Combination(u64),
+    Outside,
+}
+
+// As `reduce`, with the combination of each word that is taken off gathered in y.
+fn reduce_combined(basis: &[u64; 64], combos: &[u64; 64], v: u64, y: u64) -> Residue
+    ensures { λ r. ⌜ (r .left ≡ reduced (now (basis .entry)) v) × (r .combo ≡ combined (now (basis .entry)) (now (combos .entry)) v y) ⌝ }
+{
+    let mut left = v;
+    let mut combo = y;
+    while left != 0 {
+        let k = (63 - u64::leading_zeros(left)) as usize;
+        let next = left ^ basis[k];
+        if left <= next {
+            return Residue { left, combo };
+        }
+        left = next;
+        combo ^= combos[k];
+    }
+    Residue { left, combo }
+}
+
+// The solver for the members, up to the first that those before it span; at most 64.
+pub fn solver_of(members: &[u64]) -> Solver
+    ensures { λ r. ⌜ r ≡ solverOf (now (members .entry)) ⌝ }
+{
+    let mut basis = [0u64; 64];
+    let mut combos = [0u64; 64];
+    let mut i = 0;
+    while i < members.len() {
+        if 64 <= i {
+            return Solver { basis, combos };
+        }
+        let r = reduce_combined(&basis, &combos, members[i], 1 << i);
+        let v = r.left;
+        if v == 0 {
+            return Solver { basis, combos };
+        }
+        let k = (63 - u64::leading_zeros(v)) as usize;
+        basis[k] = v;
+        combos[k] = r.combo;
+        i += 1;
+    }
+    Solver { basis, combos }
+}
+
+// The combination of members that makes the target, by a solver's words and combinations.
+pub fn solve(basis: &[u64; 64], combos: &[u64; 64], target: u64) -> Solution
+    ensures { λ r. ⌜ r ≡ solved (now (basis .entry)) (now (combos .entry)) target ⌝ }
+{
+    let r = reduce_combined(basis, combos, target, 0);
+    if r.left == 0 {
+        Solution::Combination(r.combo)
+    } else {
+        Solution::Outside
+    }
+}

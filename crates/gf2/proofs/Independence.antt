@@ -1,0 +1,186 @@
+-- Laws of independence: the computing forms against the definitions.
+--
+--   spanned-chosen    a spanned number is the sum of a choice of members
+--   chosen-spanned    the sum of a choice of members is spanned
+--   spanned-zero, spanned-xor      0 is spanned, and so is the exclusive-or of two spanned numbers
+--   spanned-equal, free-equal      equal members with equal values give the same
+--   free-independent, independent-free    `free` is independence
+--
+-- Assumes nothing.
+use mathlib.Core.Path.{_≡_, refl, sym, ap, ap₂, _∙_}
+use mathlib.Core.Bool.{Bool, true, false, _&&_, _||_, not, cond, xor}
+use mathlib.Core.Logic.{⊎-elim}
+use Prim.Native.Nat.{ℕ, zero, suc, _+_, _^_, _≤_, _<_}
+use native.Mathlib.Nat.{lt-suc-self}
+use native.Mathlib.Decide.{ℕ-discrete}
+use native.Mathlib.Omega.{arith}
+use borrow.Author.Tests.{eqb-true, eq-eqb, ne-eqb}
+use lib.Dec.{eqb}
+use Rattle.gf2.specs.Xor.{_⊕_, pick}
+use Rattle.gf2.specs.Sum.{xorSum, chosenSum}
+use Rattle.gf2.specs.Independence.{Within, Independent, spanned, free}
+use Rattle.finite.proofs.Truth.{never, both, either, or-left, or-right, not-true}
+use Rattle.gf2.proofs.Xor.{xor-assoc, xor-zero-left, xor-zero-right, xor-self, xor-back, xor-cancel}
+use Rattle.gf2.proofs.Sum.{sum-none, sum-next, sum-equal, chosen-differ}
+
+-- the choice m, with t at the place n
+placed : (ℕ → Bool) → ℕ → Bool → ℕ → Bool
+placed m n t k = cond (eqb k n) t (m k)
+
+placed-at : (m : ℕ → Bool) (n : ℕ) (t : Bool) → placed m n t n ≡ t
+unfolding placed
+placed-at m n t = rw (eq-eqb n n refl)
+
+placed-other : (m : ℕ → Bool) (n : ℕ) (t : Bool) (k : ℕ) → k < n → placed m n t k ≡ m k
+unfolding placed
+placed-other m n t k l = rw (ne-eqb k n (λ e. omega arith))
+
+placed-sum : (n : ℕ) (m : ℕ → Bool) (t : Bool) (f : ℕ → ℕ) → chosenSum (suc n) (placed m n t) f ≡ chosenSum n m f ⊕ pick t (f n)
+placed-sum n m t f =
+    sum-next n (λ k. pick (placed m n t k) (f k))
+    ∙ ap₂ _⊕_ (sum-equal n (λ k. pick (placed m n t k) (f k)) (λ k. pick (m k) (f k)) (λ k l. ap (λ (b : Bool). pick b (f k)) (placed-other m n t k l)))
+    (ap (λ (b : Bool). pick b (f n)) (placed-at m n t))
+
+placed-within : (m member : ℕ → Bool) (n : ℕ) (t : Bool) → Within m member → (t ≡ true → member n ≡ true) → Within (placed m n t) member
+unfolding placed
+placed-within m member n t w h k e = go (ℕ-discrete k n)
+  where
+    go : Dec (k ≡ n) → member k ≡ true
+    go (yes p) = ap member p ∙ h (sym (placed-at m n t) ∙ ap (placed m n t) (sym p) ∙ e)
+    go (no p) = w k (rw (ne-eqb k n p) at e)
+
+pub pick-true : (a : ℕ) → pick true a ≡ a
+unfolding pick
+pick-true a = refl
+
+pub pick-false : (a : ℕ) → pick false a ≡ 0
+unfolding pick
+pick-false a = refl
+
+pub spanned-chosen :
+    (n : ℕ) (member : ℕ → Bool) (f : ℕ → ℕ) (x : ℕ) → spanned n member f x ≡ true
+    → (m : ℕ → Bool) × Within m member × (chosenSum n m f ≡ x)
+unfolding spanned
+spanned-chosen zero member f x e =
+    ((λ k. false), (λ k p. absurd (never false p refl)), sum-none (λ k. pick false (f k)) ∙ sym (eqb-true x 0 e))
+spanned-chosen (suc n) member f x e =
+    ⊎-elim
+    (λ p. let c = spanned-chosen n member f x p in (
+      placed (c .0) n false,
+      placed-within (c .0) member n false (c .1) (λ q. absurd (never false q refl)),
+      placed-sum n (c .0) false f ∙ ap₂ _⊕_ (c .2) (pick-false (f n)) ∙ xor-zero-right x,
+    ))
+    (λ p. let q = both (member n) (spanned n member f (x ⊕ f n)) p in let c = spanned-chosen n member f (x ⊕ f n) (q .1) in (
+      placed (c .0) n true,
+      placed-within (c .0) member n true (c .1) (λ r. q .0),
+      placed-sum n (c .0) true f ∙ ap₂ _⊕_ (c .2) (pick-true (f n)) ∙ xor-back x (f n),
+    ))
+    (either (spanned n member f x) (member n && spanned n member f (x ⊕ f n)) e)
+
+pub chosen-spanned :
+    (n : ℕ) (member : ℕ → Bool) (f : ℕ → ℕ) (x : ℕ) (m : ℕ → Bool) → Within m member → chosenSum n m f ≡ x
+    → spanned n member f x ≡ true
+unfolding spanned
+chosen-spanned zero member f x m w e = eq-eqb x 0 (sym e ∙ sum-none (λ k. pick (m k) (f k)))
+chosen-spanned (suc n) member f x m w e = go (m n) refl (λ y. chosen-spanned n member f y m w)
+  where
+    go : (t : Bool) → m n ≡ t → ((y : ℕ) → chosenSum n m f ≡ y → spanned n member f y ≡ true) → spanned (suc n) member f x ≡ true
+    go true p ih =
+        let s : xorSum n (λ k. pick (m k) (f k)) ⊕ f n ≡ x = ap (λ (a : ℕ). xorSum n (λ k. pick (m k) (f k)) ⊕ a) (sym (ap (λ (b : Bool). pick b (f n)) p ∙ pick-true (f n))) ∙ sym (sum-next n (λ k. pick (m k) (f k))) ∙ e in
+        or-right (spanned n member f x) (member n && spanned n member f (x ⊕ f n))
+        (rw (w n p, ih (x ⊕ f n) (sym (xor-back (xorSum n (λ k. pick (m k) (f k))) (f n)) ∙ ap (λ (a : ℕ). a ⊕ f n) s)))
+    go false p ih =
+        let s : xorSum n (λ k. pick (m k) (f k)) ≡ x = sym (sum-next n (λ k. pick (m k) (f k)) ∙ ap (λ (b : Bool). xorSum n (λ k. pick (m k) (f k)) ⊕ pick b (f n)) p ∙ ap (λ (a : ℕ). xorSum n (λ k. pick (m k) (f k)) ⊕ a) (pick-false (f n)) ∙ xor-zero-right (xorSum n (λ k. pick (m k) (f k)))) ∙ e in
+        or-left (spanned n member f x) (member n && spanned n member f (x ⊕ f n)) (ih x s)
+
+pub spanned-zero : (n : ℕ) (member : ℕ → Bool) (f : ℕ → ℕ) → spanned n member f 0 ≡ true
+unfolding spanned
+spanned-zero zero member f = refl
+spanned-zero (suc n) member f = or-left (spanned n member f 0) (member n && spanned n member f (0 ⊕ f n)) (spanned-zero n member f)
+
+differ-within : (s t member : ℕ → Bool) → Within s member → Within t member → Within (λ k. xor (s k) (t k)) member
+unfolding xor
+differ-within s t member v w k e = go (s k) (t k) (v k) (w k) e
+  where
+    go : (a b : Bool) → (a ≡ true → member k ≡ true) → (b ≡ true → member k ≡ true) → xor a b ≡ true → member k ≡ true
+    go true b ha hb p = ha refl
+    go false true ha hb p = hb refl
+    go false false ha hb p = absurd (never false p refl)
+
+pub spanned-xor :
+    (n : ℕ) (member : ℕ → Bool) (f : ℕ → ℕ) (x y : ℕ) → spanned n member f x ≡ true → spanned n member f y ≡ true
+    → spanned n member f (x ⊕ y) ≡ true
+spanned-xor n member f x y p q =
+    let c = spanned-chosen n member f x p in
+    let d = spanned-chosen n member f y q in
+    chosen-spanned n member f (x ⊕ y) (λ k. xor (c .0 k) (d .0 k)) (differ-within (c .0) (d .0) member (c .1) (d .1))
+    (chosen-differ n (c .0) (d .0) f ∙ ap₂ _⊕_ (c .2) (d .2))
+
+pub spanned-equal :
+    (n : ℕ) (member member′ : ℕ → Bool) (f f′ : ℕ → ℕ) → ((k : ℕ) → k < n → member k ≡ member′ k)
+    → ((k : ℕ) → k < n → member k ≡ true → f k ≡ f′ k) → (x : ℕ) → spanned n member f x ≡ spanned n member′ f′ x
+unfolding spanned
+spanned-equal zero member member′ f f′ hm hf x = refl
+spanned-equal (suc n) member member′ f f′ hm hf x =
+    go (member n) (member′ n) (hm n (lt-suc-self n)) (hf n (lt-suc-self n))
+    (spanned-equal n member member′ f f′ (λ k l. hm k (omega arith)) (λ k l. hf k (omega arith)))
+  where
+    go : (a b : Bool) → a ≡ b → (a ≡ true → f n ≡ f′ n) → ((y : ℕ) → spanned n member f y ≡ spanned n member′ f′ y)
+        → (spanned n member f x || (a && spanned n member f (x ⊕ f n))) ≡ (spanned n member′ f′ x || (b && spanned n member′ f′ (x ⊕ f′ n)))
+    go true b e h ih = rw (← e, ih x, ih (x ⊕ f n), h refl)
+    go false b e h ih = rw (← e, ih x)
+
+pub free-equal :
+    (n : ℕ) (member member′ : ℕ → Bool) (f f′ : ℕ → ℕ) → ((k : ℕ) → k < n → member k ≡ member′ k)
+    → ((k : ℕ) → k < n → member k ≡ true → f k ≡ f′ k) → free n member f ≡ free n member′ f′
+unfolding free
+free-equal zero member member′ f f′ hm hf = refl
+free-equal (suc n) member member′ f f′ hm hf =
+    go (member n) (member′ n) (hm n (lt-suc-self n)) (hf n (lt-suc-self n))
+    (free-equal n member member′ f f′ (λ k l. hm k (omega arith)) (λ k l. hf k (omega arith)))
+    (spanned-equal n member member′ f f′ (λ k l. hm k (omega arith)) (λ k l. hf k (omega arith)))
+  where
+    go : (a b : Bool) → a ≡ b → (a ≡ true → f n ≡ f′ n) → free n member f ≡ free n member′ f′
+        → ((y : ℕ) → spanned n member f y ≡ spanned n member′ f′ y)
+        → (free n member f && not (a && spanned n member f (f n))) ≡ (free n member′ f′ && not (b && spanned n member′ f′ (f′ n)))
+    go true b e h ih sp = rw (← e, ih, sp (f n), h refl)
+    go false b e h ih sp = rw (← e, ih)
+
+pub free-independent : (n : ℕ) (member : ℕ → Bool) (f : ℕ → ℕ) → free n member f ≡ true → Independent n member f
+unfolding free
+free-independent zero member f h m w e k l = absurd (omega arith)
+free-independent (suc n) member f h m w e k l =
+    go (m n) refl (both (free n member f) (not (member n && spanned n member f (f n))) h) (ℕ-discrete k n)
+    (λ p q. free-independent n member f p m w q k)
+  where
+    next : (t : Bool) → m n ≡ t → xorSum n (λ k. pick (m k) (f k)) ⊕ pick t (f n) ≡ 0
+    next t p = ap (λ (b : Bool). xorSum n (λ k. pick (m k) (f k)) ⊕ pick b (f n)) (sym p) ∙ sym (sum-next n (λ k. pick (m k) (f k))) ∙ e
+
+    go : (t : Bool) → m n ≡ t → (free n member f ≡ true) × (not (member n && spanned n member f (f n)) ≡ true) → Dec (k ≡ n)
+        → (free n member f ≡ true → chosenSum n m f ≡ 0 → k < n → m k ≡ false) → m k ≡ false
+    go true p b d ih =
+        absurd (never (not (member n && spanned n member f (f n))) (b .1)
+        (rw (w n p, chosen-spanned n member f (f n) m w (xor-cancel (xorSum n (λ k. pick (m k) (f k))) (f n) (ap (λ (a : ℕ). xorSum n (λ k. pick (m k) (f k)) ⊕ a) (sym (pick-true (f n))) ∙ next true p)))))
+    go false p b (yes q) ih = ap m q ∙ p
+    go false p b (no q) ih =
+        ih (b .0) (sym (xor-zero-right (xorSum n (λ k. pick (m k) (f k)))) ∙ ap (λ (a : ℕ). xorSum n (λ k. pick (m k) (f k)) ⊕ a) (sym (pick-false (f n))) ∙ next false p) (omega arith)
+
+pub independent-free : (n : ℕ) (member : ℕ → Bool) (f : ℕ → ℕ) → Independent n member f → free n member f ≡ true
+unfolding free
+independent-free zero member f h = refl
+independent-free (suc n) member f h =
+    rw (independent-free n member f before) (ap not (not-true (member n && spanned n member f (f n)) last))
+  where
+    before : Independent n member f
+    before m w e k l =
+        sym (placed-other m n false k l)
+        ∙ h (placed m n false) (placed-within m member n false w (λ q. absurd (never false q refl)))
+        (placed-sum n m false f ∙ ap₂ _⊕_ e (pick-false (f n)) ∙ xor-self 0) k (omega arith)
+
+    last : (member n && spanned n member f (f n)) ≡ true → ⊥
+    last e =
+        let q = both (member n) (spanned n member f (f n)) e in
+        let c = spanned-chosen n member f (f n) (q .1) in
+        never (placed (c .0) n true n) (placed-at (c .0) n true)
+        (h (placed (c .0) n true) (placed-within (c .0) member n true (c .1) (λ r. q .0))
+        (placed-sum n (c .0) true f ∙ ap₂ _⊕_ (c .2) (pick-true (f n)) ∙ xor-self (f n)) n (lt-suc-self n))
