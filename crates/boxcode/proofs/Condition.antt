@@ -24,10 +24,10 @@ use Rattle.boxcode.specs.Code.{Code, Formed}
 use Rattle.boxcode.specs.Condition.{Conditions, rowMember, columnMember, columnDifference, stripEntry}
 use Rattle.boxcode.specs.Syndrome.{Cells, rowSyndrome, columnSyndrome, SameCells}
 use Rattle.boxcode.specs.Burst.{Inside, Burst}
-use Rattle.finite.proofs.Truth.{Truth, is-true, is-false, true-or-false, clash, not-true, same-truth, xor-equal, xor-cases, or-left, or-right, and-left, and-both, in-within}
+use Rattle.finite.proofs.Truth.{Truth, is-true, is-false, true-or-false, clash, not-true, same-truth, xor-equal, xor-cases, or-left, or-right, and-left, and-both}
 use Rattle.finite.proofs.Digits.{place-to, place-is}
 use Rattle.boxcode.proofs.Image.{unpicked}
-use Rattle.boxcode.proofs.Pattern.{patternOf, memberCell, SamePattern, same-at, row-pattern, column-members, cell-home, cell-member}
+use Rattle.boxcode.proofs.Pattern.{pattern-window, burst-row, patternOf, memberCell, SamePattern, same-at, column-members, cell-home, cell-member}
 use Rattle.boxcode.proofs.Separated.{Separated}
 
 -- the remainder of member x stands on one column in both strips: then it is no member, and its difference is 0
@@ -96,23 +96,16 @@ module _ (c : Code) (F : Formed c) (K : Conditions c) where
       p' : ℕ → Bool
       p' = patternOf c (B' .left) e'
 
-      -- a cell of a pattern lies in its window
-      in-window : (d : Cells) (D : Burst c d) (k : ℕ) → patternOf c (D .left) d k ≡ true → within (D .top) (c .b1) (k / c .b2) ≡ true
-      in-window d D k t =
-          let j = place (c .b2) (D .left) (k % c .b2) in
-          in-within (D .top) (c .b1) (k / c .b2) (D .inside .row-from (k / c .b2) j t) (D .inside .row-to (k / c .b2) j t)
-
       members : Within (λ k. xor (p k) (p' k)) (rowMember c (B .top) (B' .top))
       members k t =
           let w = within (B .top) (c .b1) (k / c .b2) in
           let w' = within (B' .top) (c .b1) (k / c .b2) in
-          xor-cases (p k) (p' k) t (λ u. or-left w w' (in-window e B k u)) (λ u. or-right w w' (in-window e' B' k u))
+          xor-cases (p k) (p' k) t (λ u. or-left w w' (pattern-window c F e B k u)) (λ u. or-right w w' (pattern-window c F e' B' k u))
 
       none : chosenSum (c .n1 * c .b2) (λ k. xor (p k) (p' k)) (c .rowEntry) ≡ 0
       none =
           chosen-differ (c .n1 * c .b2) p p' (c .rowEntry)
-          ∙ ap₂ _⊕_ (sym (row-pattern c F (B .top) (B .left) (B .rows-on) (B .columns-on) e (B .inside)) ∙ q)
-          (sym (row-pattern c F (B' .top) (B' .left) (B' .rows-on) (B' .columns-on) e' (B' .inside)))
+          ∙ ap₂ _⊕_ (sym (burst-row c F e B) ∙ q) (sym (burst-row c F e' B'))
           ∙ xor-self (rowSyndrome c e')
 
   -- of two sets in one window, with the same pattern and equal H sums, every cell of one is a cell of the other

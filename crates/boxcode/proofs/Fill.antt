@@ -1,6 +1,7 @@
 -- Sheets by their check cells and their data, for any code of the right form:
 --
 --   checkCell, SameData  what a sheet has in check cell k; two sheets hold the same data
+--   width-pos            the sheet has columns
 --   data-cells, cell-data, cell-check   what a sheet holds in its data cells and in its check cells
 --   same-cells           a sheet is known by its check cells and its data
 --   fill-check, data-fill   what a filled sheet has in check cell k, and as its data
@@ -50,11 +51,11 @@ module _ (c : Code) (F : Formed c) where
   pub cell-check : (i j : ℕ) → i < c .n1 → j < c .n2 → checkAt c (cellNumber c i j) ≡ true
       → (k : ℕ) × (k < c .rv + c .rh) × (c .checkRow k ≡ i) × (c .checkColumn k ≡ j)
   cell-check i j li lj t =
-      let w = check-found c F (cellNumber c i j) t in
-      ( w .0
-      , w .1
-      , sym (check-row c F (w .0) (w .1)) ∙ ap (λ (t : ℕ). t / c .n2) (w .2) ∙ number-row c i j lj
-      , sym (check-column c F (w .0) (w .1)) ∙ ap (λ (t : ℕ). t % c .n2) (w .2) ∙ number-column c i j lj
+      let w = check-found c F (cellNumber c i j) t in (
+        w .0,
+        w .1,
+        sym (check-row c F (w .0) (w .1)) ∙ ap (λ (t : ℕ). t / c .n2) (w .2) ∙ number-row c i j lj,
+        sym (check-column c F (w .0) (w .1)) ∙ ap (λ (t : ℕ). t % c .n2) (w .2) ∙ number-column c i j lj,
       )
 
   -- a sheet is known by its check cells and its data

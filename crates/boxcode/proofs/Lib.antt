@@ -6,9 +6,10 @@ pub mod Burst
 pub mod Separated
 pub mod Condition
 pub mod Trial
+pub mod Laid
 pub mod Check
 pub mod Fill
 pub mod Written
-pub mod Reader
 pub mod Report
+pub mod Reader
 pub mod Theorems

@@ -4,9 +4,10 @@
 --   SamePattern     two sets have the same pattern
 --   memberCell      its cells by the remainders of the column and of the row, as members of two strips
 --   strip-weight, box-weight   its sum, over any weight, by the remainders of the columns; of the rows too
---   pattern-at, pattern-cell, same-at   its cells, in its pattern
+--   pattern-at, same-at, cell-home, cell-member   its cells, in its pattern and among its members
 --   row-pattern     its V sum, over its pattern
 --   column-members  its H sum, over its members
+--   InWindow, pattern-window, burst-row   the pattern of a burst is in its window and has its V sum
 --
 -- Assumes nothing.
 use mathlib.Core.Path.{_≡_, sym, ap, ap₂, _∙_}
@@ -17,12 +18,12 @@ use lib.Arith.{digits-lt, digits-div, digits-mod}
 use Rattle.gf2.specs.Xor.{pick}
 use Rattle.gf2.specs.Sum.{xorSum, chosenSum}
 use Rattle.gf2.proofs.Sum.{sum-equal, sum-exchange, sum-blocks}
-use Rattle.finite.specs.Search.{place}
+use Rattle.finite.specs.Search.{within, place}
 use Rattle.boxcode.specs.Code.{Code, Formed, rowWeight, columnWeight}
 use Rattle.boxcode.specs.Condition.{stripEntry}
 use Rattle.boxcode.specs.Syndrome.{Cells, weightSum, rowSyndrome, columnSyndrome}
-use Rattle.boxcode.specs.Burst.{Inside}
-use Rattle.finite.proofs.Truth.{not-true}
+use Rattle.boxcode.specs.Burst.{Inside, Burst}
+use Rattle.finite.proofs.Truth.{not-true, in-within}
 use Rattle.finite.proofs.Digits.{place-mod, place-is}
 use Rattle.boxcode.proofs.Image.{strip-sum, unpicked}
 
@@ -36,6 +37,10 @@ memberCell c top left e x = e (place (c .b1) top (x % c .b1)) (place (c .b2) lef
 
 abbrev pub SamePattern : Code → ℕ → Cells → ℕ → Cells → Type 0
 SamePattern c left e left' e' = (k : ℕ) → k < c .n1 * c .b2 → patternOf c left e k ≡ patternOf c left' e' k
+
+-- every position of a pattern is in a row of the window
+abbrev pub InWindow : Code → ℕ → (ℕ → Bool) → Type 0
+InWindow c top p = (k : ℕ) → p k ≡ true → within top (c .b1) (k / c .b2) ≡ true
 
 -- ---- sums by remainders, over any weight
 
@@ -131,3 +136,14 @@ module _ (c : Code) (F : Formed c) where
     cell-member i j t =
         ap₂ (λ (y z : ℕ). e (place (c .b1) top y) (place (c .b2) left z)) (digits-mod (j % c .b2) (mod-lt i (F .b1-pos))) (digits-div (j % c .b2) (mod-lt i (F .b1-pos)))
         ∙ ap₂ e (place-is (c .b1) top (F .b1-pos) i (on .row-from i j t) (on .row-to i j t)) (cell-home i j t) ∙ t
+
+  -- the pattern of a burst is in its window, and has its V sum
+  pub pattern-window : (e : Cells) (B : Burst c e) → InWindow c (B .top) (patternOf c (B .left) e)
+  unfolding patternOf
+  pattern-window e B k t =
+      let i = k / c .b2 in
+      let j = place (c .b2) (B .left) (k % c .b2) in
+      in-within (B .top) (c .b1) i (B .inside .row-from i j t) (B .inside .row-to i j t)
+
+  pub burst-row : (e : Cells) (B : Burst c e) → rowSyndrome c e ≡ chosenSum (c .n1 * c .b2) (patternOf c (B .left) e) (c .rowEntry)
+  burst-row e B = row-pattern (B .top) (B .left) (B .rows-on) (B .columns-on) e (B .inside)

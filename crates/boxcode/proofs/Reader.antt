@@ -1,11 +1,14 @@
 -- What the reader makes of a sheet:
 --
---   fits-mendable, mendable-fits, unmendable, not-mendable   a sheet is mendable exactly where some burst fits it
---   change-burst, mended-belongs     the change is a burst, and the mended sheet belongs
---   change-is                        under separation the change is the burst that fits
---   Blotted                          a sheet is t with the cells of e turned over
---   blotted-mendable, -change, -mended, -data   such a sheet is mended to t, if t belongs and e is a burst
---   apart                            no two bursts make sheets that belong and differ in data equal
+--   fits-mendable, unmendable, none-fits   a sheet is mendable exactly where some burst fits it
+--   change-burst, change-fits, mended-belongs   the change is a burst that fits, and the mended sheet belongs
+--   change-is            under separation the change is the burst that fits
+--   blotted-mendable, blotted-change, blotted-mended, blotted-data   a sheet that is t with a burst e turned over is mended to t,
+--                        if t belongs
+--   apart                no two bursts make different sheets that belong equal
+--   mended-written       the mended sheet is the one written from the data read
+--   Reads, reads         a written sheet with one burst on it is read back, whole
+--   data-apart           no two bursts make sheets written from different data equal
 --
 -- Assumes nothing.
 use mathlib.Core.Path.{_≡_, refl, sym, ap, _∙_}
@@ -14,14 +17,16 @@ use Prim.Native.Nat.{ℕ, _<_}
 use Rattle.boxcode.specs.Code.{Code, Formed}
 use Rattle.boxcode.specs.Syndrome.{Cells, rowSyndrome, columnSyndrome, Belongs, flip, SameCells}
 use Rattle.boxcode.specs.Burst.{Burst, Fits}
-use Rattle.boxcode.specs.Check.{dataSize, dataOf}
-use Rattle.boxcode.specs.Reader.{mendable, change, mended}
+use Rattle.boxcode.specs.Check.{Bits, dataSize, written, dataOf}
+use Rattle.boxcode.specs.Reader.{mendable, change, mended, reportOf}
 use Rattle.finite.proofs.Truth.{clash, not-true, xor-back}
 use Rattle.boxcode.proofs.Syndrome.{belongs-cells}
 use Rattle.boxcode.proofs.Separated.{Separated, fits-unique}
 use Rattle.boxcode.proofs.Burst.{fits-row, fits-column, sums-fit}
 use Rattle.boxcode.proofs.Trial.{Found, found, has-burst}
 use Rattle.boxcode.proofs.Fill.{data-cells}
+use Rattle.boxcode.proofs.Written.{Writable, written-data, written-back}
+use Rattle.boxcode.proofs.Report.{report-cells}
 
 module _ (c : Code) (F : Formed c) (s : Cells) where
   pub fits-mendable : (e : Cells) → Burst c e → Fits c s e → mendable c s ≡ true
@@ -85,3 +90,39 @@ pub apart : (c : Code) → Formed c → Separated c → (t t' e e' : Cells) → 
 apart c F S t t' e e' b b' B B' h i j li lj =
     sym (blotted-mended c F S t e (flip t e) b B (λ i j li lj. refl) i j li lj)
     ∙ blotted-mended c F S t' e' (flip t e) b' B' h i j li lj
+
+-- ---- a sheet written from data, with one burst on it
+
+-- what is read from the sheet s, where s was written from x and had the cells of e turned over
+pub record Reads (c : Code) (x : Bits) (e s : Cells) : Type 0 where
+  pub taken : mendable c s ≡ true
+  pub turned : (i j : ℕ) → change c s i j ≡ e i j
+  pub sheet : SameCells c (mended c s) (written c x)
+  pub report : reportOf c (change c s) ≡ reportOf c e
+  pub bits : (d : ℕ) → d < dataSize c → dataOf c (mended c s) d ≡ x d
+
+module _ (c : Code) (F : Formed c) (W : Writable c) where
+  -- the mended sheet is the one written from the data read
+  pub mended-written : (s : Cells) → mendable c s ≡ true → SameCells c (mended c s) (written c (dataOf c (mended c s)))
+  mended-written s t = written-back c F W (mended c s) (mended-belongs c F s t)
+
+  module _ (S : Separated c) where
+    pub reads : (x : Bits) (e s : Cells) → Burst c e → SameCells c s (flip (written c x) e) → Reads c x e s
+    reads x e s B h =
+        let t = written c x in
+        let b = W .belongs x in
+        let turned : (i j : ℕ) → change c s i j ≡ e i j = blotted-change c F S t e s b B h in
+        record {
+          taken = blotted-mendable c F S t e s b B h;
+          turned = turned;
+          sheet = blotted-mended c F S t e s b B h;
+          report = report-cells c (change c s) e (λ i j li lj. turned i j);
+          bits = λ d l. blotted-data c F S t e s b B h d l ∙ written-data c F x d l;
+        }
+
+    pub data-apart : (x x' : Bits) (e e' : Cells) → Burst c e → Burst c e' → SameCells c (flip (written c x) e) (flip (written c x') e')
+        → (d : ℕ) → d < dataSize c → x d ≡ x' d
+    data-apart x x' e e' B B' h d l =
+        sym (written-data c F x d l)
+        ∙ data-cells c F (written c x) (written c x') (apart c F S (written c x) (written c x') e e' (W .belongs x) (W .belongs x') B B' h) d l
+        ∙ written-data c F x' d l

@@ -229,9 +229,9 @@ module _ (c : Code) where
   unfolding reportOf nothing
   report-none e h =
       let r : anyBelow (c .n1) (inRow c e) ≡ false =
-        none-any (c .n1) (inRow c e) (λ i l. not-true (inRow c e i) (λ t. let w = has-row e i t in clash (w .2) (h i (w .0) l (w .1)))) in
+      none-any (c .n1) (inRow c e) (λ i l. not-true (inRow c e i) (λ t. let w = has-row e i t in clash (w .2) (h i (w .0) l (w .1)))) in
       let k : anyBelow (c .n2) (inColumn c e) ≡ false =
-        none-any (c .n2) (inColumn c e) (λ j l. not-true (inColumn c e j) (λ t. let w = has-column e j t in clash (w .2) (h (w .0) j (w .1) l))) in
+      none-any (c .n2) (inColumn c e) (λ j l. not-true (inColumn c e j) (λ t. let w = has-column e j t in clash (w .2) (h (w .0) j (w .1) l))) in
       λ i. record {
         cells = cells-none (c .n1) (c .n2) e h i;
         top = first-none (c .n1) (inRow c e) r i;
@@ -242,16 +242,16 @@ module _ (c : Code) where
 
   pub burst-report : Formed c → (e : Cells) → Burst c e → Small c (reportOf c e)
   unfolding reportOf
-  burst-report F e B = record
-      { cells-box = box
-      ; cells-most = le-trans box sixteen
-      ; top-on = r .0
-      ; left-on = k .0
-      ; height-most = r .1
-      ; width-most = k .1
-      ; rows-on = r .2
-      ; columns-on = k .2
-      }
+  burst-report F e B = record {
+    cells-box = box;
+    cells-most = le-trans box sixteen;
+    top-on = r .0;
+    left-on = k .0;
+    height-most = r .1;
+    width-most = k .1;
+    rows-on = r .2;
+    columns-on = k .2;
+  }
     where
       box : cellsIn (c .n1) (c .n2) e ≤ c .b1 * c .b2
       box = box-count (B .top) (B .left) (c .b1) (c .b2) e (B .inside) (c .n1) (c .n2)

@@ -5,11 +5,13 @@
 --   mendable-iff       a sheet is mendable exactly where some burst fits it
 --   mended-belongs, change-burst   a mendable sheet is mended to one that belongs, by turning over a burst
 --   mended-written     and that is the sheet written from the data read
---   reads              a written sheet with one burst on it is read back, whole
+--   reads              a written sheet with one burst on it is read back, whole (burst-none: the empty set is a burst)
 --   data-apart         no two bursts make sheets written from different data equal
+--   report-cells, report-inside, report-least, report-none, burst-report   the five numbers are the number of cells and the
+--                      smallest rectangle, five zeros for the empty set, and small for a burst (from Report)
 --
 -- Assumes nothing but what it takes as Spans.
-use mathlib.Core.Path.{_≡_, refl, sym, _∙_}
+use mathlib.Core.Path.{_≡_}
 use mathlib.Core.Logic.{_↔_}
 use mathlib.Core.Bool.{true}
 use Prim.Native.Nat.{ℕ, _<_}
@@ -18,22 +20,15 @@ use Rattle.boxcode.specs.Condition.{Conditions}
 use Rattle.boxcode.specs.Syndrome.{Cells, Belongs, flip, SameCells}
 use Rattle.boxcode.specs.Burst.{Burst, Fits}
 use Rattle.boxcode.specs.Check.{Bits, dataSize, written, dataOf}
-use Rattle.boxcode.specs.Reader.{mendable, change, mended, reportOf}
-use Rattle.boxcode.proofs.Separated.{Separated, fits-unique}
+use Rattle.boxcode.specs.Reader.{mendable, change, mended}
+use Rattle.boxcode.proofs.Separated.{fits-unique}
 use Rattle.boxcode.proofs.Condition.{separated}
-use Rattle.boxcode.proofs.Fill.{data-cells}
 use Rattle.boxcode.proofs.Written as Written
-use Rattle.boxcode.proofs.Written.{Spans, Writable, writable}
+use Rattle.boxcode.proofs.Written.{Spans, writable}
 use Rattle.boxcode.proofs.Reader as Reader
-use Rattle.boxcode.proofs.Report.{report-cells}
-
--- what is read from the sheet s, where s was written from x and had the cells of e turned over
-pub record Reads (c : Code) (x : Bits) (e s : Cells) : Type 0 where
-  pub taken : mendable c s ≡ true
-  pub turned : (i j : ℕ) → change c s i j ≡ e i j
-  pub sheet : SameCells c (mended c s) (written c x)
-  pub report : reportOf c (change c s) ≡ reportOf c e
-  pub bits : (d : ℕ) → d < dataSize c → dataOf c (mended c s) d ≡ x d
+pub use Rattle.boxcode.proofs.Reader.{Reads}
+pub use Rattle.boxcode.proofs.Burst.{burst-none}
+pub use Rattle.boxcode.proofs.Report.{report-cells, report-inside, report-least, report-none, burst-report}
 
 -- ---- of any code of the right form
 
@@ -48,6 +43,9 @@ module _ (c : Code) (F : Formed c) (s : Cells) where
   pub change-burst : mendable c s ≡ true → Burst c (change c s)
   change-burst = Reader.change-burst c F s
 
+pub written-data : (c : Code) → Formed c → (x : Bits) (d : ℕ) → d < dataSize c → dataOf c (written c x) d ≡ x d
+written-data = Written.written-data
+
 -- ---- of a code that meets the conditions
 
 module _ (c : Code) (F : Formed c) (K : Conditions c) where
@@ -56,49 +54,21 @@ module _ (c : Code) (F : Formed c) (K : Conditions c) where
   at-most-one = fits-unique c (separated c F K)
 
 module _ (spans : Spans) (c : Code) (F : Formed c) (K : Conditions c) where
-  W : Writable c
-  W = writable spans c F K
-
   -- 01: "the one sheet .. that holds this string in the cells that are not check cells .. and belongs to the plan"
   pub written-belongs : (x : Bits) → Belongs c (written c x)
-  written-belongs = W .belongs
-
-  pub written-data : (x : Bits) (d : ℕ) → d < dataSize c → dataOf c (written c x) d ≡ x d
-  written-data = Written.written-data c F
+  written-belongs = writable spans c F K .belongs
 
   pub written-only : (x : Bits) (s : Cells) → Belongs c s → ((d : ℕ) → d < dataSize c → dataOf c s d ≡ x d) → SameCells c s (written c x)
-  written-only = Written.written-only c F W
+  written-only = Written.written-only c F (writable spans c F K)
 
   pub mended-written : (s : Cells) → mendable c s ≡ true → SameCells c (mended c s) (written c (dataOf c (mended c s)))
-  mended-written s t = written-only (dataOf c (mended c s)) (mended c s) (mended-belongs c F s t) (λ d l. refl)
+  mended-written = Reader.mended-written c F (writable spans c F K)
 
   -- 01, demand 3: from a written sheet with one blot on it the reader gives the written sheet, the data and the blot's report
   pub reads : (x : Bits) (e s : Cells) → Burst c e → SameCells c s (flip (written c x) e) → Reads c x e s
-  reads x e s B h = record {
-    taken = Reader.blotted-mendable c F S t e s b B h;
-    turned = turned;
-    sheet = Reader.blotted-mended c F S t e s b B h;
-    report = report-cells c (change c s) e (λ i j li lj. turned i j);
-    bits = λ d l. Reader.blotted-data c F S t e s b B h d l ∙ written-data x d l;
-  }
-    where
-      S : Separated c
-      S = separated c F K
-
-      t : Cells
-      t = written c x
-
-      b : Belongs c t
-      b = written-belongs x
-
-      turned : (i j : ℕ) → change c s i j ≡ e i j
-      turned = Reader.blotted-change c F S t e s b B h
+  reads = Reader.reads c F (writable spans c F K) (separated c F K)
 
   -- 01, demand 3: what was written can be told from what is read
   pub data-apart : (x x' : Bits) (e e' : Cells) → Burst c e → Burst c e' → SameCells c (flip (written c x) e) (flip (written c x') e')
       → (d : ℕ) → d < dataSize c → x d ≡ x' d
-  data-apart x x' e e' B B' h d l =
-      sym (written-data x d l)
-      ∙ data-cells c F (written c x) (written c x')
-      (Reader.apart c F (separated c F K) (written c x) (written c x') e e' (written-belongs x) (written-belongs x') B B' h) d l
-      ∙ written-data x' d l
+  data-apart = Reader.data-apart c F (writable spans c F K) (separated c F K)

@@ -1,5 +1,6 @@
 -- The trial of all bursts, for any code of the right form:
 --
+--   boxNumber                the pattern number of a set of cells in a rectangle
 --   box-inside, box-number   a pattern number gives cells inside its rectangle, and every set inside one has a number
 --   trial-burst, burst-trial   every trial is a burst, and every burst is a trial
 --   Found                    a burst with two given sums
@@ -157,9 +158,9 @@ module _ (c : Code) (F : Formed c) (v h : ℕ) where
       let l : t < trials c = w .1 in
       let cells : SameCells c (trialCells c t) e = λ i j li lj. w .2 i j in
       let m : least (trials c) (tried c v h) ≤ t =
-        least-most (trials c) (tried c v h) t
-        (equal-both (rowSyndrome c (trialCells c t)) (columnSyndrome c (trialCells c t)) v h
-        (row-cells c (trialCells c t) e cells ∙ f .row) (column-cells c (trialCells c t) e cells ∙ f .column)) in
+      least-most (trials c) (tried c v h) t
+      (equal-both (rowSyndrome c (trialCells c t)) (columnSyndrome c (trialCells c t)) v h
+      (row-cells c (trialCells c t) e cells ∙ f .row) (column-cells c (trialCells c t) e cells ∙ f .column)) in
       lt-ltb (least (trials c) (tried c v h)) (trials c) (omega arith)
 
   pub burst-is : Separated c → (e : Cells) → Found c v h e → (i j : ℕ) → burstFor c v h i j ≡ e i j

@@ -1,6 +1,7 @@
 -- The written sheet:
 --
 --   Spans            independent numbers of n bits, n of them, give every number of n bits (the algebra that writing rests on)
+--   belongs-true, true-belongs   the test of belonging
 --   checks-sum       the joint sum of a set of check cells
 --   belongs-only     two sheets that belong and hold the same data are the same cells
 --   written-data     the written sheet holds its data

@@ -207,7 +207,7 @@ least-last (suc n) p =
     go : (t : Bool)
         → suc (least (suc n) (λ k. p (suc k))) ≡ suc (cond (eqb (least n (λ k. p (suc k))) n) (cond (p (suc n)) n (suc n)) (least n (λ k. p (suc k))))
         → cond t 0 (suc (least (suc n) (λ k. p (suc k))))
-            ≡ cond (eqb (cond t 0 (suc (least n (λ k. p (suc k))))) (suc n)) (cond (p (suc n)) (suc n) (suc (suc n))) (cond t 0 (suc (least n (λ k. p (suc k)))))
+        ≡ cond (eqb (cond t 0 (suc (least n (λ k. p (suc k))))) (suc n)) (cond (p (suc n)) (suc n) (suc (suc n))) (cond t 0 (suc (least n (λ k. p (suc k)))))
     go true ih = rw (eqb·zero-suc n)
     go false ih = ih ∙ rw (eqb·suc-suc (least n (λ k. p (suc k))) n) (split (eqb (least n (λ k. p (suc k))) n) (p (suc n)))
       where

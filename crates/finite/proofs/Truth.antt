@@ -8,6 +8,7 @@
 --   true-or-false                   every value is one or the other, with the equation
 --   clash, never                    no value is both
 --   xor-equal, xor-none, xor-self, xor-back   differences of truth values
+--   both-equal, equal-both                    two equations as one test
 --   within-from, within-to, in-within         the numbers of a run
 --
 -- Assumes nothing.
@@ -15,8 +16,8 @@ use mathlib.Core.Path.{_≡_, refl, sym, _∙_}
 use mathlib.Core.Bool.{Bool, true, false, _&&_, _||_, xor, true≢false}
 use mathlib.Core.Logic.{_⊎_, inl, inr}
 use Prim.Native.Nat.{ℕ, _+_, _≤_, _<_}
-use lib.Dec.{leb, ltb}
-use borrow.Author.Tests.{leb-true, ltb-true, le-leb, lt-ltb}
+use lib.Dec.{leb, ltb, eqb}
+use borrow.Author.Tests.{leb-true, ltb-true, eqb-true, le-leb, lt-ltb, eq-eqb}
 use Rattle.finite.specs.Search.{within}
 
 -- a truth value, with its equation, to split on
@@ -122,3 +123,10 @@ within-to a m x e = ltb-true x (a + m) (and-right (leb a x) (ltb x (a + m)) e)
 pub in-within : (a m x : ℕ) → a ≤ x → x < a + m → within a m x ≡ true
 unfolding within
 in-within a m x f t = and-both (leb a x) (ltb x (a + m)) (le-leb a x f) (lt-ltb x (a + m) t)
+
+-- two equations as one test
+pub both-equal : (a b v h : ℕ) → (eqb a v && eqb b h) ≡ true → (a ≡ v) × (b ≡ h)
+both-equal a b v h t = (eqb-true a v (and-left (eqb a v) (eqb b h) t), eqb-true b h (and-right (eqb a v) (eqb b h) t))
+
+pub equal-both : (a b v h : ℕ) → a ≡ v → b ≡ h → (eqb a v && eqb b h) ≡ true
+equal-both a b v h p q = and-both (eqb a v) (eqb b h) (eq-eqb a v p) (eq-eqb b h q)

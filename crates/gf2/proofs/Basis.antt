@@ -7,7 +7,7 @@
 --   extended-free    all are taken exactly where they are free
 --
 -- Assumes nothing.
-use mathlib.Core.Path.{_≡_, refl, sym, ap, ap₂, _∙_}
+use mathlib.Core.Path.{_≡_, refl, sym, ap, _∙_}
 use mathlib.Core.Bool.{Bool, true, false, cond}
 use mathlib.Core.List.{List, [], _∷_, _++_, reverseAux}
 use mathlib.Core.Logic.{⊎-elim, inl, inr}
@@ -19,13 +19,11 @@ use borrow.Author.Tests.{eqb-true, eqb-false, eq-eqb}
 use lib.Dec.{eqb}
 use lib.ListN.{length, getD, take, drop, set, length-set, replicate, length-replicate, getD-replicate}
 use lib.Seq.{getD-set-same, getD-set-other, set-split, split-at}
-use Rattle.gf2.specs.Xor.{_⊕_}
-use Rattle.gf2.specs.Independence.{spanned}
 use Rattle.gf2.specs.Vectors.{spans, takenFrom, freeFrom}
-use Rattle.gf2.specs.Basis.{top, lowered, reduced, inserted, extendedFrom, extended, Below, Word, BasisOf}
+use Rattle.gf2.specs.Basis.{emptyWords, top, lowered, reduced, inserted, extendedFrom, extended, Below, Word, BasisOf}
 use Rattle.gf2.specs.declared.Extended.{Extended}
 use Rattle.finite.proofs.Truth.{same-truth}
-use Rattle.gf2.proofs.Spans.{spans-zero, spans-xor, spans-moved, spans-known, spans-under, spans-middle, spans-exchange}
+use Rattle.gf2.proofs.Spans.{spans-zero, spans-known, spans-under, spans-middle, spans-exchange}
 use Rattle.gf2.proofs.Vectors.{taken-none, taken-more}
 use Rattle.gf2.proofs.Reduction.{Place, top-place, reduced-stuck, reduced-le, reduced-differ, reduced-same}
 use Rattle.gf2.proofs.Triangle.{xor-clears, spanned-down, spanned-top, spanned-list}
@@ -38,7 +36,12 @@ pub basis-empty : BasisOf [] (replicate 64 0)
 basis-empty = record {
   size = length-replicate {A = ℕ} 64 0;
   shape = λ k l. inl (getD-replicate 64 k 0 0 l);
-  same = zeros-span 64 }
+  same = zeros-span 64;
+}
+
+pub basis-start : BasisOf [] emptyWords
+unfolding emptyWords
+basis-start = basis-empty
 
 -- a word put where there is none
 set-span : (b : List ℕ) (k r x : ℕ) → k < length b → getD b k 0 ≡ 0 → spans (set b k r) x ≡ spans (r ∷ b) x
@@ -78,7 +81,7 @@ module _ {vs b : List ℕ} (B : BasisOf vs b) where
           → lowered b (reduced b x) < reduced b x
       clear p w =
           let l : lowered b (reduced b x) < 2 ^ top (reduced b x) =
-              unfold lowered in xor-clears (top (reduced b x)) (reduced b x) (getD b (top (reduced b x)) 0) (p .low) (p .high) (w .0) (w .1) in
+          unfold lowered in xor-clears (top (reduced b x)) (reduced b x) (getD b (top (reduced b x)) 0) (p .low) (p .high) (w .0) (w .1) in
           omega arith
 
   pub basis-reduces : (x : ℕ) → x < 2 ^ 64 → eqb (reduced b x) 0 ≡ spans vs x
@@ -86,8 +89,10 @@ module _ {vs b : List ℕ} (B : BasisOf vs b) where
     where
       there : eqb (reduced b x) 0 ≡ true → spans vs x ≡ true
       there e = sym (B .same x) ∙ sym (reduced-same b x) ∙ ap (spans b) (eqb-true (reduced b x) 0 e) ∙ spans-zero b
+
       words : (k n : ℕ) → n ≤ 64 → k < n → Word k (getD b k 0)
       words k n l u = B .shape k (omega arith)
+
       go : spans b (reduced b x) ≡ true → Dec (reduced b x ≡ 0) → reduced b x ≡ 0
       go s (yes e) = e
       go s (no ne) =
@@ -95,8 +100,9 @@ module _ {vs b : List ℕ} (B : BasisOf vs b) where
           absurd
           (spanned-top (λ k. getD b k 0) (top (reduced b x)) (reduced b x) (λ k l. words k (suc (top (reduced b x))) (p .inside) l) (p .low)
           (spanned-down (λ k. getD b k 0) (suc (top (reduced b x))) 64 (reduced b x) (p .inside) (B .shape) (p .high)
-            (spanned-list 64 b (reduced b x) (B .size) ∙ s))
+          (spanned-list 64 b (reduced b x) (B .size) ∙ s))
           (left-free x h ne))
+
       back : spans vs x ≡ true → eqb (reduced b x) 0 ≡ true
       back s = eq-eqb (reduced b x) 0 (go (reduced-same b x ∙ B .same x ∙ s) (ℕ-discrete (reduced b x) 0))
 
@@ -108,8 +114,9 @@ module _ {vs b : List ℕ} (B : BasisOf vs b) where
         size = length-set b (top (reduced b m)) (reduced b m) ∙ B .size;
         shape = set-words b (top (reduced b m)) (reduced b m) (B .size) (B .shape) (inr (p .low, p .high));
         same = λ x.
-          set-span b (top (reduced b m)) (reduced b m) x (omega (arith, B .size, p .inside)) (left-free m h ne)
-          ∙ spans-exchange b (reduced b m) m x (reduced-differ b m) ∙ spans-under b vs (B .same) m x }
+            set-span b (top (reduced b m)) (reduced b m) x (omega (arith, B .size, p .inside)) (left-free m h ne)
+            ∙ spans-exchange b (reduced b m) m x (reduced-differ b m) ∙ spans-under b vs (B .same) m x;
+      }
 
 -- what `extended` gives, where i members stand in the basis already
 pub record Extends (vs ms : List ℕ) (i : ℕ) (r : Extended) : Type 0 where
@@ -125,7 +132,7 @@ from-extends (m ∷ ms) {vs} {b} i B h =
     go : (t : Bool) → eqb (reduced b m) 0 ≡ t
         → ((reduced b m ≡ 0 → ⊥) → Extends (m ∷ vs) ms (suc i) (extendedFrom ms (inserted b (reduced b m)) (suc i)))
         → Extends vs (m ∷ ms) i (cond t (record { basis = b; taken = i }) (extendedFrom ms (inserted b (reduced b m)) (suc i)))
-    go true e ih = 
+    go true e ih =
         let z : takenFrom vs (m ∷ ms) ≡ 0 = taken-more vs m ms ∙ rw (← basis-reduces B m (h 0 (zero-lt-suc (length ms))), e) in
         record { count = omega arith; basis = rw z B }
     go false e ih =

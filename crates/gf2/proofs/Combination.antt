@@ -11,15 +11,14 @@
 -- Assumes nothing.
 use mathlib.Core.Path.{_≡_, refl, sym, ap, ap₂, _∙_}
 use mathlib.Core.Bool.{Bool, true, false, xor}
-use mathlib.Core.List.{List, [], _∷_, _++_, reverseAux}
-use Prim.Native.Nat.{ℕ, zero, suc, _+_, _*_, _-_, _/_, _%_, _^_, _≤_, _<_}
-use native.Mathlib.Nat.{mod-lt, zero-lt-suc, lt-suc-self, div-eq-of-lt, div-eq-of-lt-le, eq-zero-or-pos}
-use native.Mathlib.Decide.{ℕ-discrete, decLt}
+use mathlib.Core.List.{List, [], _∷_, _++_}
+use Prim.Native.Nat.{ℕ, zero, suc, _+_, _-_, _/_, _%_, _^_, _≤_, _<_}
+use native.Mathlib.Nat.{mod-lt, zero-lt-suc, div-eq-of-lt, div-eq-of-lt-le, eq-zero-or-pos}
+use native.Mathlib.Decide.{decLt}
 use native.Mathlib.Omega.{arith}
 use mathlib.Core.Logic.{⊎-elim}
-use borrow.Author.Tests.{eq-eqb}
 use lib.Bits as bits
-use lib.Bits.{bitXor, differ}
+use lib.Bits.{differ}
 use lib.Count.{leading-top}
 use lib.Dec.{eqb}
 use lib.ListN.{length, getD, length-append, List·getD-append}
@@ -27,11 +26,10 @@ use lib.Pow.{pow-mono, pow-pos, pow-add, shl-shr}
 use lib.Seq.{getD-append-seam}
 use Rattle.gf2.specs.Xor.{_⊕_, pick}
 use Rattle.gf2.specs.Sum.{xorSum, chosenSum}
-use Rattle.gf2.specs.Independence.{free}
 use Rattle.gf2.specs.Vectors.{freeFrom, listed}
 use Rattle.gf2.specs.Solver.{digit, combination}
 use Rattle.finite.proofs.Truth.{never}
-use Rattle.gf2.proofs.Xor.{parity, xor-cancel, xor-below, xor-self, xor-zero-right, xor-zero-left}
+use Rattle.gf2.proofs.Xor.{parity, xor-cancel, xor-below, xor-self, xor-zero-right}
 use Rattle.gf2.proofs.Sum.{sum-equal, sum-zero, sum-next, sum-single, chosen-differ}
 use Rattle.gf2.proofs.Independence.{free-independent, pick-true, pick-false}
 use Rattle.gf2.proofs.Vectors.{free-listed, listed-length}
@@ -74,7 +72,7 @@ digit-power i j d = go (decLt j i)
     go (yes l) =
         let e : suc (i - suc j) + j ≡ i = omega arith in
         let q : 2 ^ i / 2 ^ j ≡ 2 ^ suc (i - suc j) =
-            ap (λ (n : ℕ). 2 ^ n / 2 ^ j) (sym e) ∙ ap (λ (n : ℕ). n / 2 ^ j) (pow-add 2 (suc (i - suc j)) j) ∙ shl-shr (2 ^ suc (i - suc j)) j in
+        ap (λ (n : ℕ). 2 ^ n / 2 ^ j) (sym e) ∙ ap (λ (n : ℕ). n / 2 ^ j) (pow-add 2 (suc (i - suc j)) j) ∙ shl-shr (2 ^ suc (i - suc j)) j in
         let z : 2 ^ i / 2 ^ j % 2 ≡ 0 = ap (λ (n : ℕ). n % 2) (q ∙ pow-double (i - suc j)) ∙ even (2 ^ (i - suc j)) in
         rw z
     go (no u) = digit-past (suc i) j (2 ^ i) (omega (arith, pow-double i, pow-pos i)) (omega arith)
@@ -89,7 +87,7 @@ pub combination-xor : (vs : List ℕ) (y z : ℕ) → combination vs (y ⊕ z) �
 unfolding combination
 combination-xor vs y z =
     sum-equal (length vs) (λ i. pick (digit i (y ⊕ z)) (getD vs i 0)) (λ i. pick (xor (digit i y) (digit i z)) (getD vs i 0))
-        (λ i l. ap (λ (t : Bool). pick t (getD vs i 0)) (digit-xor i y z))
+    (λ i l. ap (λ (t : Bool). pick t (getD vs i 0)) (digit-xor i y z))
     ∙ chosen-differ (length vs) (λ i. digit i y) (λ i. digit i z) (λ i. getD vs i 0)
 
 pub combination-zero : (vs : List ℕ) → combination vs 0 ≡ 0
@@ -97,7 +95,7 @@ unfolding combination
 combination-zero vs =
     sum-zero (length vs) (λ i. pick (digit i 0) (getD vs i 0)) (λ i l. ap (λ (t : Bool). pick t (getD vs i 0)) (digit-past 0 i 0 (omega arith) (omega arith)) ∙ pick-false (getD vs i 0))
 
-next-length : (vs : List ℕ) (m : ℕ) → length (vs ++ (m ∷ [])) ≡ suc (length vs)
+pub next-length : (vs : List ℕ) (m : ℕ) → length (vs ++ (m ∷ [])) ≡ suc (length vs)
 next-length vs m = length-append vs (m ∷ []) ∙ omega arith
 
 pub combination-kept : (vs : List ℕ) (m y : ℕ) → y < 2 ^ length vs → combination (vs ++ (m ∷ [])) y ≡ combination vs y
@@ -106,17 +104,17 @@ combination-kept vs m y l =
     rw (next-length vs m)
     (sum-next (length vs) (λ i. pick (digit i y) (getD (vs ++ (m ∷ [])) i 0))
     ∙ ap₂ _⊕_
-        (sum-equal (length vs) (λ i. pick (digit i y) (getD (vs ++ (m ∷ [])) i 0)) (λ i. pick (digit i y) (getD vs i 0))
-            (λ i u. ap (λ (x : ℕ). pick (digit i y) x) (List·getD-append vs (m ∷ []) 0 i u)))
-        (ap (λ (t : Bool). pick t (getD (vs ++ (m ∷ [])) (length vs) 0)) (digit-past (length vs) (length vs) y l (omega arith)) ∙ pick-false (getD (vs ++ (m ∷ [])) (length vs) 0))
+    (sum-equal (length vs) (λ i. pick (digit i y) (getD (vs ++ (m ∷ [])) i 0)) (λ i. pick (digit i y) (getD vs i 0))
+    (λ i u. ap (λ (x : ℕ). pick (digit i y) x) (List·getD-append vs (m ∷ []) 0 i u)))
+    (ap (λ (t : Bool). pick t (getD (vs ++ (m ∷ [])) (length vs) 0)) (digit-past (length vs) (length vs) y l (omega arith)) ∙ pick-false (getD (vs ++ (m ∷ [])) (length vs) 0))
     ∙ xor-zero-right (xorSum (length vs) (λ i. pick (digit i y) (getD vs i 0))))
 
 pub combination-last : (vs : List ℕ) (m : ℕ) → combination (vs ++ (m ∷ [])) (2 ^ length vs) ≡ m
 unfolding combination
 combination-last vs m =
     sum-single (length (vs ++ (m ∷ []))) (length vs) (λ i. pick (digit i (2 ^ length vs)) (getD (vs ++ (m ∷ [])) i 0))
-        (omega (arith, next-length vs m))
-        (λ k l d. ap (λ (t : Bool). pick t (getD (vs ++ (m ∷ [])) k 0)) (digit-power (length vs) k d) ∙ pick-false (getD (vs ++ (m ∷ [])) k 0))
+    (omega (arith, next-length vs m))
+    (λ k l d. ap (λ (t : Bool). pick t (getD (vs ++ (m ∷ [])) k 0)) (digit-power (length vs) k d) ∙ pick-false (getD (vs ++ (m ∷ [])) k 0))
     ∙ ap₂ pick (digit-leading (length vs) (2 ^ length vs) (omega arith) (omega (arith, pow-double (length vs), pow-pos (length vs)))) (getD-append-seam vs m [] 0)
     ∙ pick-true m
 
@@ -126,13 +124,13 @@ combination-only vs y z f ly lz e =
     xor-cancel y z
     (digits-zero (length vs) (y ⊕ z) (xor-below (length vs) y z ly lz)
     (free-independent (length vs) (λ k. true) (λ k. getD vs k 0)
-        (free-listed (length vs) (λ k. true) (λ k. getD vs k 0) ∙ ap (freeFrom []) (listed-list (length vs) vs refl) ∙ f)
-        (λ i. digit i (y ⊕ z)) (λ k p. refl)
-        (unfold combination in combination-xor vs y z ∙ ap (λ (x : ℕ). combination vs y ⊕ x) (sym e) ∙ xor-self (combination vs y))))
+    (free-listed (length vs) (λ k. true) (λ k. getD vs k 0) ∙ ap (freeFrom []) (listed-list (length vs) vs refl) ∙ f)
+    (λ i. digit i (y ⊕ z)) (λ k p. refl)
+    (unfold combination in combination-xor vs y z ∙ ap (λ (x : ℕ). combination vs y ⊕ x) (sym e) ∙ xor-self (combination vs y))))
 
 pub combination-listed : (n : ℕ) (f : ℕ → ℕ) (y : ℕ) → combination (listed n (λ k. true) f) y ≡ chosenSum n (λ i. digit i y) f
 unfolding combination
 combination-listed n f y =
     rw (listed-length n f)
     (sum-equal n (λ i. pick (digit i y) (getD (listed n (λ k. true) f) i 0)) (λ i. pick (digit i y) (f i))
-        (λ i l. ap (λ (x : ℕ). pick (digit i y) x) (listed-at n f i l)))
+    (λ i l. ap (λ (x : ℕ). pick (digit i y) x) (listed-at n f i l)))

@@ -7,8 +7,8 @@
 --   bit-is                     what the code's `1 << i` says
 --
 -- Assumes nothing.
-use mathlib.Core.Path.{_≡_, refl, sym, ap, _∙_}
-use mathlib.Core.List.{List, [], _∷_}
+use mathlib.Core.Path.{_≡_, _∙_}
+use mathlib.Core.List.{List}
 use Prim.Native.Nat.{ℕ, suc, _*_, _%_, _^_, _≤_, _<_}
 use native.Mathlib.Omega.{arith}
 use borrow.Author.Tests.{eq-eqb, ne-eqb, le-leb, lt-leb}
@@ -17,8 +17,6 @@ use lib.Pow.{shl-exact}
 use lib.Seq.{drop-cons}
 use Rattle.gf2.specs.Basis.{top, reduced, inserted, extendedFrom}
 use Rattle.gf2.specs.Solver.{combined, solverFrom}
-use Rattle.gf2.specs.declared.Extended.{Extended}
-use Rattle.gf2.specs.declared.Solver.{Solver}
 
 pub extend-stop : (ms b : List ℕ) (i : ℕ) → i < length ms → reduced b (getD ms i 0) ≡ 0 → extendedFrom (drop i ms) b i ≡ record { basis = b; taken = i }
 unfolding extendedFrom
@@ -46,8 +44,8 @@ solver-stop ms b c i l u e = rw (drop-cons ms i 0 l, lt-leb 64 i u, eq-eqb (redu
 pub solver-next :
     (ms b c : List ℕ) (i : ℕ) → i < length ms → i < 64 → (reduced b (getD ms i 0) ≡ 0 → ⊥)
     → solverFrom (drop i ms) b c i
-        ≡ solverFrom (drop (suc i) ms) (inserted b (reduced b (getD ms i 0)))
-            (set c (top (reduced b (getD ms i 0))) (combined b c (getD ms i 0) (2 ^ i))) (suc i)
+    ≡ solverFrom (drop (suc i) ms) (inserted b (reduced b (getD ms i 0)))
+    (set c (top (reduced b (getD ms i 0))) (combined b c (getD ms i 0) (2 ^ i))) (suc i)
 solver-next ms b c i l u e = rw (drop-cons ms i 0 l) (unfold solverFrom in rw (lt-leb 64 i u, ne-eqb (reduced b (getD ms i 0)) 0 e))
 
 pub solver-end : (ms b c : List ℕ) (i : ℕ) → length ms ≤ i → solverFrom (drop i ms) b c i ≡ record { basis = b; combos = c }

@@ -10,7 +10,7 @@
 use mathlib.Core.Path.{_≡_, refl, sym, ap, ap₂, _∙_}
 use mathlib.Core.Bool.{Bool, true, false, _&&_, _||_, not, cond, xor}
 use mathlib.Core.Logic.{⊎-elim}
-use Prim.Native.Nat.{ℕ, zero, suc, _+_, _^_, _≤_, _<_}
+use Prim.Native.Nat.{ℕ, zero, suc, _<_}
 use native.Mathlib.Nat.{lt-suc-self}
 use native.Mathlib.Decide.{ℕ-discrete}
 use native.Mathlib.Omega.{arith}
@@ -20,7 +20,7 @@ use Rattle.gf2.specs.Xor.{_⊕_, pick}
 use Rattle.gf2.specs.Sum.{xorSum, chosenSum}
 use Rattle.gf2.specs.Independence.{Within, Independent, spanned, free}
 use Rattle.finite.proofs.Truth.{never, both, either, or-left, or-right, not-true}
-use Rattle.gf2.proofs.Xor.{xor-assoc, xor-zero-left, xor-zero-right, xor-self, xor-back, xor-cancel}
+use Rattle.gf2.proofs.Xor.{xor-zero-right, xor-self, xor-back, xor-cancel}
 use Rattle.gf2.proofs.Sum.{sum-none, sum-next, sum-equal, chosen-differ}
 
 -- the choice m, with t at the place n

@@ -11,3 +11,4 @@ pub mod Basis
 pub mod Span
 pub mod Combination
 pub mod Combined
+pub mod Solving

@@ -9,13 +9,13 @@
 --
 -- Assumes nothing.
 use mathlib.Core.Path.{_≡_, refl, sym, ap, _∙_}
-use mathlib.Core.Bool.{Bool, true, false, _&&_, not, cond}
+use mathlib.Core.Bool.{Bool, true, false, not, cond}
 use mathlib.Core.List.{List, [], _∷_, _++_, reverseAux}
 use Prim.Native.Nat.{ℕ, zero, suc, _+_, _^_, _≤_, _<_}
-use native.Mathlib.Nat.{zero-lt-suc, lt-suc-self}
+use native.Mathlib.Nat.{zero-lt-suc}
 use native.Mathlib.Decide.{ℕ-discrete, decLt}
 use native.Mathlib.Omega.{arith}
-use borrow.Author.Tests.{eqb-true, eqb-false, eq-eqb, ne-eqb, not-true}
+use borrow.Author.Tests.{eqb-false, eq-eqb, ne-eqb, not-true}
 use lib.Dec.{eqb}
 use lib.ListN.{length, getD, set, replicate, getD-replicate, List·getD-append}
 use lib.Pow.{pow-mono}
@@ -23,7 +23,7 @@ use lib.Seq.{getD-set-same, getD-set-other, getD-at}
 use Rattle.gf2.specs.Independence.{spanned, free}
 use Rattle.gf2.specs.Vectors.{spans, freeFrom, listed}
 use Rattle.gf2.specs.Basis.{top, reduced, inserted, Below, BasisOf}
-use Rattle.finite.proofs.Truth.{never, both}
+use Rattle.finite.proofs.Truth.{both}
 use Rattle.gf2.proofs.Vectors.{free-more, free-listed, spanned-listed, listed-length, listed-in}
 use Rattle.gf2.proofs.Reduction.{reduced-le}
 use Rattle.gf2.proofs.Basis.{basis-empty, left-place, left-free, basis-reduces, basis-inserted}
@@ -136,5 +136,5 @@ pub full-span :
 full-span n f s h e x l =
     spanned-listed n (λ k. true) f x
     ∙ full-list n s (listed n (λ k. true) f)
-        (λ k q. rw (listed-at n f k (omega (arith, listed-length n f))) (h k (omega (arith, listed-length n f))))
-        (listed-length n f) (sym (free-listed n (λ k. true) f) ∙ e) x l
+    (λ k q. rw (listed-at n f k (omega (arith, listed-length n f))) (h k (omega (arith, listed-length n f))))
+    (listed-length n f) (sym (free-listed n (λ k. true) f) ∙ e) x l

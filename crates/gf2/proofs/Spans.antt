@@ -17,7 +17,7 @@ use borrow.Author.Tests.{eqb-true, eq-eqb}
 use Rattle.gf2.specs.Xor.{_⊕_}
 use Rattle.gf2.specs.Vectors.{spans}
 use Rattle.finite.proofs.Truth.{either, or-left, or-right, same-truth}
-use Rattle.gf2.proofs.Xor.{xor-assoc, xor-comm, xor-zero-left, xor-zero-right, xor-self, xor-back, xor-again}
+use Rattle.gf2.proofs.Xor.{xor-assoc, xor-comm, xor-self, xor-back, xor-again}
 
 pub spans-more : (vs : List ℕ) (v x : ℕ) → spans vs x ≡ true → spans (v ∷ vs) x ≡ true
 unfolding spans
@@ -42,13 +42,13 @@ spans-xor [] x y p q = eq-eqb (x ⊕ y) 0 (ap₂ _⊕_ (eqb-true x 0 p) (eqb-tru
 spans-xor (v ∷ vs) x y p q =
     ⊎-elim
     (λ a. ⊎-elim
-      (λ b. or-left (spans vs (x ⊕ y)) (spans vs ((x ⊕ y) ⊕ v)) (spans-xor vs x y a b))
-      (λ b. or-right (spans vs (x ⊕ y)) (spans vs ((x ⊕ y) ⊕ v)) (ap (spans vs) (xor-assoc x y v) ∙ spans-xor vs x (y ⊕ v) a b))
-      (either (spans vs y) (spans vs (y ⊕ v)) q))
+    (λ b. or-left (spans vs (x ⊕ y)) (spans vs ((x ⊕ y) ⊕ v)) (spans-xor vs x y a b))
+    (λ b. or-right (spans vs (x ⊕ y)) (spans vs ((x ⊕ y) ⊕ v)) (ap (spans vs) (xor-assoc x y v) ∙ spans-xor vs x (y ⊕ v) a b))
+    (either (spans vs y) (spans vs (y ⊕ v)) q))
     (λ a. ⊎-elim
-      (λ b. or-right (spans vs (x ⊕ y)) (spans vs ((x ⊕ y) ⊕ v)) (ap (spans vs) (sym (move x y v)) ∙ spans-xor vs (x ⊕ v) y a b))
-      (λ b. or-left (spans vs (x ⊕ y)) (spans vs ((x ⊕ y) ⊕ v)) (ap (spans vs) (sym (xor-back (x ⊕ y) v) ∙ ap (λ (w : ℕ). w ⊕ v) (sym (move x y v)) ∙ xor-assoc (x ⊕ v) y v) ∙ spans-xor vs (x ⊕ v) (y ⊕ v) a b))
-      (either (spans vs y) (spans vs (y ⊕ v)) q))
+    (λ b. or-right (spans vs (x ⊕ y)) (spans vs ((x ⊕ y) ⊕ v)) (ap (spans vs) (sym (move x y v)) ∙ spans-xor vs (x ⊕ v) y a b))
+    (λ b. or-left (spans vs (x ⊕ y)) (spans vs ((x ⊕ y) ⊕ v)) (ap (spans vs) (sym (xor-back (x ⊕ y) v) ∙ ap (λ (w : ℕ). w ⊕ v) (sym (move x y v)) ∙ xor-assoc (x ⊕ v) y v) ∙ spans-xor vs (x ⊕ v) (y ⊕ v) a b))
+    (either (spans vs y) (spans vs (y ⊕ v)) q))
     (either (spans vs x) (spans vs (x ⊕ v)) p)
 
 pub spans-moved : (vs : List ℕ) (x v : ℕ) → spans vs v ≡ true → spans vs (x ⊕ v) ≡ spans vs x

@@ -9,14 +9,14 @@
 --
 -- Assumes nothing.
 use mathlib.Core.Path.{_≡_, refl, sym, ap, ap₂, _∙_}
-use mathlib.Core.Bool.{Bool, true, false, _||_, or-self}
-use mathlib.Core.List.{List, [], _∷_, _++_, reverseAux, append-nil}
+use mathlib.Core.Bool.{Bool, true, _||_, or-self}
+use mathlib.Core.List.{List, [], _++_, reverseAux, append-nil}
 use mathlib.Core.Logic.{⊎-elim}
 use Prim.Native.Nat.{ℕ, zero, suc, _+_, _*_, _-_, _^_, _≤_, _<_}
-use native.Mathlib.Nat.{lt-suc-self, add-zero, add-suc, sub-zero, le-refl}
+use native.Mathlib.Nat.{lt-suc-self, add-zero, add-suc}
 use native.Mathlib.Omega.{arith}
 use lib.Bits as bits
-use lib.ListN.{length, getD, take, drop}
+use lib.ListN.{length, getD}
 use lib.Pow.{pow-mono, pow-pos, pow-add}
 use lib.Seq.{take-all}
 use Rattle.gf2.specs.Xor.{_⊕_, pick}
@@ -44,7 +44,7 @@ xor-clears k a c la ha lc hc =
     let ec : 1 * 2 ^ k + (c - 2 ^ k) ≡ c = omega arith in
     let l : bits.bitXor (a - 2 ^ k) (c - 2 ^ k) < 2 ^ k = bits.xor-lt k (a - 2 ^ k) (c - 2 ^ k) (omega arith) (omega arith) in
     let e : bits.bitXor a c ≡ 0 * 2 ^ k + bits.bitXor (a - 2 ^ k) (c - 2 ^ k) =
-        ap₂ bits.bitXor (sym ea) (sym ec) ∙ bits.xor-block k 1 1 (a - 2 ^ k) (c - 2 ^ k) (omega arith) (omega arith) in
+    ap₂ bits.bitXor (sym ea) (sym ec) ∙ bits.xor-block k 1 1 (a - 2 ^ k) (c - 2 ^ k) (omega arith) (omega arith) in
     omega arith
 
 pub spanned-below : (w n : ℕ) (member : ℕ → Bool) (f : ℕ → ℕ) (x : ℕ) → ((k : ℕ) → k < n → f k < 2 ^ w) → spanned n member f x ≡ true → x < 2 ^ w
@@ -65,11 +65,11 @@ module _ (f : ℕ → ℕ) where
   down-one n x h l e =
       ⊎-elim (λ p. p)
       (λ p. ⊎-elim (λ z. ap (spanned n (λ k. true) f) (sym (xor-zero-right x) ∙ ap (λ (a : ℕ). x ⊕ a) (sym z)) ∙ p)
-        (λ w.
-          let u = words-below n (x ⊕ f n) (λ k q. h k (omega arith)) p in
-          let v : x ⊕ (x ⊕ f n) < 2 ^ n = xor-below n x (x ⊕ f n) l u in
-          absurd (omega (arith, w .0, xor-again x (f n))))
-        (h n (lt-suc-self n)))
+      (λ w.
+      let u = words-below n (x ⊕ f n) (λ k q. h k (omega arith)) p in
+      let v : x ⊕ (x ⊕ f n) < 2 ^ n = xor-below n x (x ⊕ f n) l u in
+      absurd (omega (arith, w .0, xor-again x (f n))))
+      (h n (lt-suc-self n)))
       (either (spanned n (λ k. true) f x) (spanned n (λ k. true) f (x ⊕ f n)) e)
 
   down-add : (n d x : ℕ) → ((k : ℕ) → k < n + d → Word k (f k)) → x < 2 ^ n → spanned (n + d) (λ k. true) f x ≡ true → spanned n (λ k. true) f x ≡ true
@@ -87,7 +87,7 @@ module _ (f : ℕ → ℕ) where
   spanned-top k x h l e z = omega (arith, words-below k x (λ j q. h j (omega arith)) (before e))
     where
       before : spanned (suc k) (λ j. true) f x ≡ true → spanned k (λ j. true) f x ≡ true
-      before p = unfold spanned in sym (or-self (spanned k (λ j. true) f x) ) ∙ ap (λ (a : ℕ). spanned k (λ j. true) f x || spanned k (λ j. true) f a) (sym (xor-zero-right x) ∙ ap (λ (a : ℕ). x ⊕ a) (sym z)) ∙ p
+      before p = unfold spanned in sym (or-self (spanned k (λ j. true) f x)) ∙ ap (λ (a : ℕ). spanned k (λ j. true) f x || spanned k (λ j. true) f a) (sym (xor-zero-right x) ∙ ap (λ (a : ℕ). x ⊕ a) (sym z)) ∙ p
 
 -- the elements of a list, listed
 pub listed-list : (n : ℕ) (b : List ℕ) → length b ≡ n → listed n (λ k. true) (λ k. getD b k 0) ≡ b

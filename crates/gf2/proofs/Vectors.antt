@@ -15,12 +15,12 @@
 -- Assumes nothing.
 use mathlib.Core.Path.{_≡_, refl, sym, ap, ap₂, _∙_}
 use mathlib.Core.Bool.{Bool, true, false, _&&_, _||_, not, cond, and-assoc, and-true, and-false, or-false}
-use mathlib.Core.List.{List, [], _∷_, _++_, reverseAux, append-nil, append-assoc, reverse-append, reverseAux-append}
+use mathlib.Core.List.{List, [], _∷_, _++_, reverseAux, append-nil, append-assoc, reverseAux-append}
 use Prim.Native.Nat.{ℕ, zero, suc, _+_, _-_, _≤_, _<_, max}
-use native.Mathlib.Nat.{lt-suc-self, add-zero, add-suc, suc-add}
+use native.Mathlib.Nat.{lt-suc-self, add-zero, add-suc}
 use native.Mathlib.Omega.{arith}
-use borrow.Author.Tests.{eqb-true, eq-eqb, le-leb, lt-leb, lt-ltb, le-ltb}
-use lib.Dec.{eqb, leb, ltb, eqb·suc-suc, eqb·zero-suc}
+use borrow.Author.Tests.{le-leb, lt-leb, lt-ltb, le-ltb}
+use lib.Dec.{eqb, leb, eqb·suc-suc, eqb·zero-suc}
 use lib.ListN.{length, take, drop, getD, length-append, length-drop}
 use lib.Seq.{take-suc, getD-drop}
 use Rattle.gf2.specs.Xor.{_⊕_}
@@ -28,7 +28,6 @@ use Rattle.gf2.specs.Independence.{spanned, free}
 use Rattle.finite.specs.Search.{least, within}
 use Rattle.gf2.specs.Vectors.{spans, takenFrom, freeFrom, listed, part}
 use Rattle.finite.proofs.Search.{least-last}
-use Rattle.finite.proofs.Truth.{never}
 
 pub free-none : (vs : List ℕ) → freeFrom vs [] ≡ true
 unfolding freeFrom takenFrom
@@ -65,7 +64,7 @@ taken-append (m ∷ ms) vs ms′ = rw (free-more vs m ms, taken-more vs m (ms ++
   where
     go : (t : Bool) → takenFrom (m ∷ vs) (ms ++ ms′) ≡ cond (freeFrom (m ∷ vs) ms) (length ms + takenFrom (reverseAux ms (m ∷ vs)) ms′) (takenFrom (m ∷ vs) ms)
         → cond t 0 (suc (takenFrom (m ∷ vs) (ms ++ ms′)))
-            ≡ cond (not t && freeFrom (m ∷ vs) ms) (suc (length ms) + takenFrom (reverseAux ms (m ∷ vs)) ms′) (cond t 0 (suc (takenFrom (m ∷ vs) ms)))
+        ≡ cond (not t && freeFrom (m ∷ vs) ms) (suc (length ms) + takenFrom (reverseAux ms (m ∷ vs)) ms′) (cond t 0 (suc (takenFrom (m ∷ vs) ms)))
     go true ih = refl
     go false ih = ap suc ih ∙ split (freeFrom (m ∷ vs) ms)
       where
@@ -126,8 +125,14 @@ run-add :
     → listed (a + d) member f ≡ listed a member f ++ take d (drop a t)
 run-add a zero member f t l h g = rw (add-zero a) (sym (append-nil (listed a member f)))
 run-add a (suc d) member f t l h g =
-    rw (add-suc a d, listed-in (a + d) member f (h (a + d) (omega arith) (omega arith)), run-add a d member f t (omega arith) (λ k p q. h k p (omega arith)) (λ k p q. g k p (omega arith)),
-      take-suc (drop a t) d 0 (omega (arith, length-drop a t)), getD-drop a t d 0, g (a + d) (omega arith) (omega arith))
+    rw (
+      add-suc a d,
+      listed-in (a + d) member f (h (a + d) (omega arith) (omega arith)),
+      run-add a d member f t (omega arith) (λ k p q. h k p (omega arith)) (λ k p q. g k p (omega arith)),
+      take-suc (drop a t) d 0 (omega (arith, length-drop a t)),
+      getD-drop a t d 0,
+      g (a + d) (omega arith) (omega arith),
+    )
     (append-assoc (listed a member f) (take d (drop a t)) (getD t (a + d) 0 ∷ []))
 
 pub listed-run :
@@ -169,12 +174,12 @@ taken-least zero f = unfold takenFrom listed least in refl
 taken-least (suc n) f =
     ap (takenFrom []) (listed-in n (λ k. true) f refl) ∙ taken-append (listed n (λ k. true) f) [] (f n ∷ [])
     ∙ rw (taken-more (reverseAux (listed n (λ k. true) f) []) (f n) [], ← spanned-listed n (λ k. true) f (f n), listed-length n f)
-        (last (spanned n (λ k. true) f (f n)) (taken-least n f))
+    (last (spanned n (λ k. true) f (f n)) (taken-least n f))
     ∙ sym (least-last n (λ k. spanned k (λ j. true) f (f k)))
   where
     last : (t : Bool) → takenFrom [] (listed n (λ k. true) f) ≡ least n (λ k. spanned k (λ j. true) f (f k))
         → cond (freeFrom [] (listed n (λ k. true) f)) (n + cond t 0 (suc (takenFrom (f n ∷ reverseAux (listed n (λ k. true) f) []) []))) (takenFrom [] (listed n (λ k. true) f))
-            ≡ cond (eqb (least n (λ k. spanned k (λ j. true) f (f k))) n) (cond t n (suc n)) (least n (λ k. spanned k (λ j. true) f (f k)))
+        ≡ cond (eqb (least n (λ k. spanned k (λ j. true) f (f k))) n) (cond t n (suc n)) (least n (λ k. spanned k (λ j. true) f (f k)))
     last t ih =
         unfold freeFrom in
         rw (ih, listed-length n f, taken-none (f n ∷ reverseAux (listed n (λ k. true) f) []))
@@ -205,15 +210,15 @@ free-two-runs n a a′ m member f t l u w h g =
     ∙ ap (freeFrom [])
     (listed-skip (a′ + m) n member f u (λ k p q. h k q ∙ ap₂ _||_ (run-after a m k (omega arith)) (run-after a′ m k p))
     ∙ listed-run (max (a + m) a′) (a′ + m) member f t (omega arith) (omega arith)
-        (λ k p q. h k (omega arith) ∙ ap₂ _||_ (run-after a m k (omega arith)) (run-within a′ m k (omega arith) q)) (λ k p q. g k (omega arith))
+    (λ k p q. h k (omega arith) ∙ ap₂ _||_ (run-after a m k (omega arith)) (run-within a′ m k (omega arith) q)) (λ k p q. g k (omega arith))
     ∙ ap (λ (s : List ℕ). s ++ part (max (a + m) a′) (a′ + m) t)
-        (listed-skip (a + m) (max (a + m) a′) member f (omega arith)
-            (λ k p q. h k (omega arith) ∙ ap₂ _||_ (run-after a m k p) (run-before a′ m k (omega arith)))
-        ∙ listed-run a (a + m) member f t (omega arith) (omega arith)
-            (λ k p q. h k (omega arith) ∙ ap (λ (b : Bool). b || within a′ m k) (run-within a m k p q)) (λ k p q. g k (omega arith))
-        ∙ ap (λ (s : List ℕ). s ++ part a (a + m) t)
-            (listed-skip 0 a member f (omega arith) (λ k p q. h k (omega arith) ∙ ap₂ _||_ (run-before a m k q) (run-before a′ m k (omega arith)))
-            ∙ listed-none member f)))
+    (listed-skip (a + m) (max (a + m) a′) member f (omega arith)
+    (λ k p q. h k (omega arith) ∙ ap₂ _||_ (run-after a m k p) (run-before a′ m k (omega arith)))
+    ∙ listed-run a (a + m) member f t (omega arith) (omega arith)
+    (λ k p q. h k (omega arith) ∙ ap (λ (b : Bool). b || within a′ m k) (run-within a m k p q)) (λ k p q. g k (omega arith))
+    ∙ ap (λ (s : List ℕ). s ++ part a (a + m) t)
+    (listed-skip 0 a member f (omega arith) (λ k p q. h k (omega arith) ∙ ap₂ _||_ (run-before a m k q) (run-before a′ m k (omega arith)))
+    ∙ listed-none member f)))
 
 pub free-least : (n : ℕ) (f : ℕ → ℕ) → free n (λ k. true) f ≡ eqb (least n (λ k. spanned k (λ j. true) f (f k))) n
 free-least n f = free-listed n (λ k. true) f ∙ (unfold freeFrom in rw (taken-least n f, listed-length n f))

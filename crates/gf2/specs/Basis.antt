@@ -1,5 +1,6 @@
 -- A basis by leading digit: a list of 64 words, of which word k is 0 or has digit k as its leading digit.
 --
+--   emptyWords        the words of the empty basis
 --   top v             the place of the leading digit of v
 --   lowered b v       v with the word at its leading digit taken off
 --   reduced b v       what is left of v when that is done as long as it makes v smaller
@@ -17,10 +18,13 @@ use mathlib.Core.List.{List, [], _∷_}
 use mathlib.Core.Logic.{_⊎_}
 use lib.Count.{leadingZeros}
 use lib.Dec.{eqb, ltb}
-use lib.ListN.{length, getD, set}
+use lib.ListN.{length, getD, set, replicate}
 use Rattle.gf2.specs.Xor.{_⊕_}
 use Rattle.gf2.specs.Vectors.{spans}
 use Rattle.gf2.specs.declared.Extended.{Extended}
+
+unfoldable pub emptyWords : List ℕ
+emptyWords = replicate 64 0
 
 unfoldable pub top : ℕ → ℕ
 top v = 63 - leadingZeros 64 v

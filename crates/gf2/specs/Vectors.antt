@@ -8,7 +8,7 @@
 --
 -- The vectors seen so far stand in the list vs with the last in front: after ms they are `reverseAux ms vs`.
 use Prim.Native.Nat.{ℕ, zero, suc, _+_, _-_}
-use mathlib.Core.Bool.{Bool, true, false, _||_, cond}
+use mathlib.Core.Bool.{Bool, _||_, cond}
 use mathlib.Core.List.{List, [], _∷_, _++_}
 use lib.Dec.{eqb}
 use lib.ListN.{length, take, drop}
@@ -31,4 +31,3 @@ listed (suc n) member f = listed n member f ++ cond (member n) (f n ∷ []) []
 
 abbrev pub part : ℕ → ℕ → List ℕ → List ℕ
 part a b t = take (b - a) (drop a t)
-

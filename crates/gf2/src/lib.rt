@@ -2,8 +2,7 @@
 //
 // A basis is an array of 64 words: word k is 0, or a number whose leading digit is digit k. The laws about it are in proofs/Basis.antt.
 ghost use mathlib.Core.Path.{_≡_};
-ghost use lib.ListN.{replicate};
-ghost use Rattle.gf2.specs.Basis.{reduced, extended};
+ghost use Rattle.gf2.specs.Basis.{emptyWords, reduced, extended};
 ghost use Rattle.gf2.specs.Solver.{combined, solved, solverOf};
 
 // A basis after some vectors, and how many of them it took in before the first that it spanned already.
@@ -30,7 +29,7 @@ pub fn reduce(basis: &[u64; 64], v: u64) -> u64
 
 // The basis of no vectors.
 pub fn empty_basis() -> [u64; 64]
-    ensures { λ r. ⌜ r ≡ replicate 64 0 ⌝ }
+    ensures { λ r. ⌜ r ≡ emptyWords ⌝ }
 {
     [0u64; 64]
 }
@@ -101,12 +100,12 @@ pub fn solver_of(members: &[u64]) -> Solver
             return Solver { basis, combos };
         }
         let r = reduce_combined(&basis, &combos, members[i], 1 << i);
-        let v = r.left;
-        if v == 0 {
+        let left = r.left;
+        if left == 0 {
             return Solver { basis, combos };
         }
-        let k = (63 - u64::leading_zeros(v)) as usize;
-        basis[k] = v;
+        let k = (63 - u64::leading_zeros(left)) as usize;
+        basis[k] = left;
         combos[k] = r.combo;
         i += 1;
     }

@@ -1,5 +1,7 @@
-use Prim.Native.Nat.{_≤_, _<_, _^_, _-_, suc}
-use mathlib.Core.Path.{_≡_, refl, sym, ap, _∙_}
+-- `gf2::reduce` meets its contract. The loop's invariant: what is left reduces to the same as v. The measure is what is left.
+-- Assumes nothing.
+use Prim.Native.Nat.{_≤_, _-_}
+use mathlib.Core.Path.{_≡_, sym, _∙_}
 use native.Mathlib.Omega.{arith}
 use borrow.Author.Needs.{needs}
 use Rattle.gf2.specs.Xor.{_⊕_}
@@ -7,8 +9,6 @@ use Rattle.gf2.specs.Basis.{reduced, lowered, top}
 use Rattle.gf2.proofs.Reduction.{top-fits, reduced-more, reduced-done, reduced-le}
 use Rattle.gf2.proofs.reduce.Statement.{statement}
 use Rattle.gf2.proofs.reduce.Tie as tie
-use Rattle.gf2.proofs.reduce.Reads as reads
-use Rattle.gf2.proofs.reduce.Lts as lts
 
 abbrev Inv-loop : tie.InvT-loop
 Inv-loop basis v left₀ left = (left ≤ v) × (reduced basis v ≡ reduced basis left)
@@ -16,41 +16,32 @@ Inv-loop basis v left₀ left = (left ≤ v) × (reduced basis v ≡ reduced bas
 abbrev μ-loop : tie.MeasureT-loop
 μ-loop basis v left₀ left = left
 
--- src/lib.rt:19:5
 loop-holds : tie.Need-loop-holds Inv-loop μ-loop
 loop-holds c = search needs
 
--- src/lib.rt:20:18
 sub-k : tie.Need-sub-k Inv-loop μ-loop
 sub-k c = omega (arith, top-fits (c .before .loop .left) (omega arith) (omega arith))
 
--- src/lib.rt:20:17
 cast-k : tie.Need-cast-k Inv-loop μ-loop
 cast-k c = search needs
 
--- src/lib.rt:21:27
 mul-next : tie.Need-mul-next Inv-loop μ-loop
 mul-next c = search needs
 
--- src/lib.rt:21:27
 element-copy-out-next : tie.Need-element-copy-out-next Inv-loop μ-loop
 element-copy-out-next c = search needs
 
--- src/lib.rt:23:13
 returns : tie.Need-returns Inv-loop μ-loop
 unfolding lowered top _⊕_
 returns c = sym (c .before .before .before .loop .inv .1 ∙ reduced-done _ _ (c .if1 .taken))
 
--- src/lib.rt:19:5
 loop-less : tie.Need-loop-less Inv-loop μ-loop
 loop-less c = search needs
 
--- src/lib.rt:19:5
 loop-again : tie.Need-loop-again Inv-loop μ-loop
 unfolding lowered top _⊕_
 loop-again c = (omega arith, c .before .before .before .loop .inv .1 ∙ reduced-more _ _ (c .if1 .left))
 
--- src/lib.rt:15:1
 returns-2 : tie.Need-returns-2 Inv-loop μ-loop
 returns-2 c = omega (arith, reduced-le (c .before .before .args .basis .now) (c .before .loop .left))
 

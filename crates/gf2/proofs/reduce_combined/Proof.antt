@@ -1,5 +1,7 @@
-use Prim.Native.Nat.{_≤_, _<_, _^_, _-_, suc}
-use mathlib.Core.Path.{_≡_, refl, sym, ap, _∙_}
+-- `gf2::reduce_combined` meets its contract. The loop's invariant: from what is left and the combination so far, the result is the
+-- same as from v and y. Assumes nothing.
+use Prim.Native.Nat.{_≤_, _-_}
+use mathlib.Core.Path.{_≡_, sym, _∙_}
 use native.Mathlib.Omega.{arith}
 use borrow.Author.Needs.{needs}
 use Rattle.gf2.specs.Xor.{_⊕_}
@@ -9,8 +11,6 @@ use Rattle.gf2.proofs.Reduction.{top-fits, reduced-more, reduced-done, 
 use Rattle.gf2.proofs.Combined.{combined-more, combined-done}
 use Rattle.gf2.proofs.reduce_combined.Statement.{statement}
 use Rattle.gf2.proofs.reduce_combined.Tie as tie
-use Rattle.gf2.proofs.reduce_combined.Reads as reads
-use Rattle.gf2.proofs.reduce_combined.Lts as lts
 
 abbrev Inv-loop : tie.InvT-loop
 Inv-loop basis combos v y left₀ combo₀ left combo =
@@ -19,53 +19,42 @@ Inv-loop basis combos v y left₀ combo₀ left combo =
 abbrev μ-loop : tie.MeasureT-loop
 μ-loop basis combos v y left₀ combo₀ left combo = left
 
--- src/lib.rt:80:5
 loop-holds : tie.Need-loop-holds Inv-loop μ-loop
 loop-holds c = search needs
 
--- src/lib.rt:81:18
 sub-k : tie.Need-sub-k Inv-loop μ-loop
 sub-k c = omega (arith, top-fits (c .before .loop .left) (omega arith) (omega arith))
 
--- src/lib.rt:81:17
 cast-k : tie.Need-cast-k Inv-loop μ-loop
 cast-k c = search needs
 
--- src/lib.rt:82:27
 mul-next : tie.Need-mul-next Inv-loop μ-loop
 mul-next c = search needs
 
--- src/lib.rt:82:27
 element-copy-out-next : tie.Need-element-copy-out-next Inv-loop μ-loop
 element-copy-out-next c = search needs
 
--- src/lib.rt:84:13
 returns : tie.Need-returns Inv-loop μ-loop
 unfolding lowered top _⊕_
 returns c =
     let a = c .before .before .before .loop in
     (sym (a .inv .1 ∙ reduced-done _ _ (c .if1 .taken)), sym (a .inv .2 ∙ combined-done _ _ _ _ (c .if1 .taken)))
 
--- src/lib.rt:87:18
 mul-combo : tie.Need-mul-combo Inv-loop μ-loop
 mul-combo c = search needs
 
--- src/lib.rt:87:18
 element-copy-out-combo : tie.Need-element-copy-out-combo Inv-loop μ-loop
 element-copy-out-combo c = search needs
 
--- src/lib.rt:80:5
 loop-less : tie.Need-loop-less Inv-loop μ-loop
 loop-less c = search needs
 
--- src/lib.rt:80:5
 loop-again : tie.Need-loop-again Inv-loop μ-loop
 unfolding lowered top _⊕_
 loop-again c =
     let a = c .before .before .before .before .loop in
     (omega arith, a .inv .1 ∙ reduced-more _ _ (c .before .if1 .left), a .inv .2 ∙ combined-more _ _ _ _ (c .before .if1 .left))
 
--- src/lib.rt:75:1
 returns-2 : tie.Need-returns-2 Inv-loop μ-loop
 returns-2 c =
     let a = c .before .loop in

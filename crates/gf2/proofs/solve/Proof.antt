@@ -1,25 +1,20 @@
-use mathlib.Core.Path.{_≡_, sym, _∙_}
+-- `gf2::solve` meets its contract. Assumes nothing.
+use mathlib.Core.Path.{sym, _∙_}
 use borrow.Author.Needs.{needs}
 use borrow.Author.Tests.{eq-eqb, ne-eqb}
 use Rattle.gf2.specs.Solver.{solved}
 use Rattle.gf2.proofs.solve.Statement.{statement}
 use Rattle.gf2.proofs.solve.Tie as tie
-use Rattle.gf2.proofs.solve.Reads as reads
-use Rattle.gf2.proofs.solve.Lts as lts
-use Rattle.gf2.proofs.reduce_combined.Reads as reduce-combined-reads
 
--- src/lib.rt:120:9
 reduce-combined-requires : tie.Need-reduce-combined-requires
 reduce-combined-requires c κs = search needs
 
--- src/lib.rt:117:1
 returns : tie.Need-returns
 unfolding solved
 returns c =
     let r = c .before .before .reduce-combined in
     rw (eq-eqb _ 0 (sym (r .ensures .0) ∙ c .if1 .taken), ← r .ensures .1)
 
--- src/lib.rt:117:1
 returns-2 : tie.Need-returns-2
 unfolding solved
 returns-2 c =

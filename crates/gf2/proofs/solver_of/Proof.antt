@@ -1,18 +1,17 @@
-use Prim.Native.Nat.{_≤_, _<_, _^_, _-_, suc}
-use mathlib.Core.Path.{_≡_, refl, sym, ap, _∙_}
+-- `gf2::solver_of` meets its contract. The loop's invariant: going on with the members from i on gives the solver.
+-- Assumes nothing.
+use Prim.Native.Nat.{_≤_, _<_, _-_}
+use mathlib.Core.Path.{_≡_, refl, sym, _∙_}
 use native.Mathlib.Omega.{arith}
 use native.Mathlib.Numerals.{add-one}
-use lib.ListN.{length, drop, getD}
+use lib.ListN.{length, drop}
 use borrow.Author.Needs.{needs}
-use Rattle.gf2.specs.Basis.{reduced, top, inserted}
+use Rattle.gf2.specs.Basis.{top, inserted}
 use Rattle.gf2.specs.Solver.{solverFrom, solverOf}
 use Rattle.gf2.proofs.Reduction.{top-fits}
 use Rattle.gf2.proofs.Extension.{solver-full, solver-stop, solver-next, solver-end, bit-is}
 use Rattle.gf2.proofs.solver_of.Statement.{statement}
 use Rattle.gf2.proofs.solver_of.Tie as tie
-use Rattle.gf2.proofs.solver_of.Reads as reads
-use Rattle.gf2.proofs.solver_of.Lts as lts
-use Rattle.gf2.proofs.reduce_combined.Reads as reduce-combined-reads
 
 abbrev Inv-loop : tie.InvT-loop
 Inv-loop members basis₀ combos₀ i₀ basis combos i =
@@ -21,84 +20,68 @@ Inv-loop members basis₀ combos₀ i₀ basis combos i =
 abbrev μ-loop : tie.MeasureT-loop
 μ-loop members basis₀ combos₀ i₀ basis combos i = length members - i
 
--- src/lib.rt:99:5
 loop-holds : tie.Need-loop-holds Inv-loop μ-loop
 unfolding solverOf
 loop-holds c = (omega arith, refl)
 
--- src/lib.rt:101:13
 returns : tie.Need-returns Inv-loop μ-loop
 returns c =
     let a = c .before .before .loop in
     sym (a .inv .1 ∙ solver-full _ (a .basis) (a .combos) (a .i) (omega arith) (c .if1 .taken))
 
--- src/lib.rt:103:50
 mul-reduce-combined : tie.Need-mul-reduce-combined Inv-loop μ-loop
 mul-reduce-combined c = search needs
 
--- src/lib.rt:103:50
 shared-slice-read-reduce-combined : tie.Need-shared-slice-read-reduce-combined Inv-loop μ-loop
 shared-slice-read-reduce-combined c = search needs
 
--- src/lib.rt:103:62
 shl-reduce-combined : tie.Need-shl-reduce-combined Inv-loop μ-loop
 shl-reduce-combined c = search needs
 
--- src/lib.rt:103:13
 reduce-combined-requires : tie.Need-reduce-combined-requires Inv-loop μ-loop
 reduce-combined-requires c κs = search needs
 
--- src/lib.rt:106:13
 returns-2 : tie.Need-returns-2 Inv-loop μ-loop
 returns-2 c =
     let a = c .before .before .before .before .before .before .before .loop in
     let r = c .before .reduce-combined in
     sym (a .inv .1 ∙ solver-stop _ (a .basis) (a .combos) (a .i) (omega arith) (omega arith) (sym (r .ensures .0) ∙ c .if2 .taken))
 
--- src/lib.rt:108:18
 sub-k : tie.Need-sub-k Inv-loop μ-loop
 sub-k c = top-fits (c .before .reduce-combined .result .left) (omega arith) (omega arith)
 
--- src/lib.rt:108:17
 cast-k : tie.Need-cast-k Inv-loop μ-loop
 cast-k c = search needs
 
--- src/lib.rt:109:9
 mul-basis : tie.Need-mul-basis Inv-loop μ-loop
 mul-basis c = search needs
 
--- src/lib.rt:109:9
 array-write-basis : tie.Need-array-write-basis Inv-loop μ-loop
 array-write-basis c = search needs
 
--- src/lib.rt:110:9
 mul-combos : tie.Need-mul-combos Inv-loop μ-loop
 mul-combos c = search needs
 
--- src/lib.rt:110:9
 array-write-combos : tie.Need-array-write-combos Inv-loop μ-loop
 array-write-combos c = search needs
 
--- src/lib.rt:111:9
 add-i : tie.Need-add-i Inv-loop μ-loop
 add-i c = search needs
 
--- src/lib.rt:99:5
 loop-less : tie.Need-loop-less Inv-loop μ-loop
 loop-less c = search needs
 
--- src/lib.rt:99:5
 loop-again : tie.Need-loop-again Inv-loop μ-loop
 unfolding inserted top
 loop-again c =
     let a = c .before .before .before .before .before .before .before .loop in
     let r = c .before .reduce-combined in
-    let l : a .i < 64 = omega arith in
-    (omega arith,
-    a .inv .1 ∙ solver-next _ (a .basis) (a .combos) (a .i) (omega arith) l (λ e. c .if2 .left (r .ensures .0 ∙ e))
-    ∙ rw (← r .ensures .0, ← bit-is (a .i) l, ← r .ensures .1, add-one))
+    let l : a .i < 64 = omega arith in (
+      omega arith,
+      a .inv .1 ∙ solver-next _ (a .basis) (a .combos) (a .i) (omega arith) l (λ e. c .if2 .left (r .ensures .0 ∙ e))
+          ∙ rw (← r .ensures .0, ← bit-is (a .i) l, ← r .ensures .1, add-one),
+    )
 
--- src/lib.rt:93:1
 returns-3 : tie.Need-returns-3 Inv-loop μ-loop
 returns-3 c =
     let a = c .before .loop in

@@ -1,0 +1,1 @@
+// All checks in order.
