@@ -4,13 +4,21 @@
 --   windowsFree words step size i j   the same of windows number i and j, when one starts step entries after the other
 --   columnCode words b1 b2            a code with these words as its column table
 --   jointsOf c                        the joint entries of the check cells
-use Prim.Native.Nat.{ℕ, _+_, _*_, max}
+--   Strips, AllStrips                 two strips that lie in a table; all that do
+--   differences words from to k       the exclusive-ors of k words from two places on
+--   membersOf c a b r                 the members of the first r remainders of two strips
+--   Members g ms                      the gathered members are ms
+--   Joint, Joints                     what is promised of a joint entry, and of an array of them
+use Prim.Native.Nat.{ℕ, zero, suc, _+_, _*_, _^_, _≤_, _<_, max}
+use mathlib.Core.Path.{_≡_}
 use mathlib.Core.Bool.{Bool, true}
-use mathlib.Core.List.{List, [], _++_}
-use lib.ListN.{getD}
+use mathlib.Core.List.{List, [], _∷_, _++_}
+use lib.ListN.{length, getD, take}
+use Rattle.gf2.specs.Xor.{_⊕_}
 use Rattle.gf2.specs.Vectors.{freeFrom, listed, part}
 use Rattle.boxcode.specs.Code.{Code, checkJoint}
-use Rattle.boxcode.specs.Condition.{everyone}
+use Rattle.boxcode.specs.Condition.{everyone, columnMember, columnDifference}
+use Rattle.accept.specs.declared.columns.Gathered.{Gathered}
 
 unfoldable pub runsFree : List ℕ → ℕ → ℕ → ℕ → Bool
 runsFree words size a b = freeFrom [] (part a (a + size) words ++ part (max (a + size) b) (b + size) words)
@@ -34,3 +42,48 @@ columnCode words b1 b2 = record {
 
 unfoldable pub jointsOf : Code → List ℕ
 jointsOf c = listed (c .rv + c .rh) everyone (checkJoint c)
+
+-- two strips of columns of height entries each that lie in a table of n words
+pub record Strips (n height width a b : ℕ) : Type 0 where
+  pub height-most : height ≤ 4
+  pub width-pos : 1 ≤ width
+  pub width-most : width ≤ 4
+  pub box-most : width * height ≤ 16
+  pub rising : a < b
+  pub few : b ≤ 698
+  pub inside : (b + width) * height ≤ n
+
+-- so do the count strips of a table
+pub record AllStrips (n height width count : ℕ) : Type 0 where
+  pub height-most : height ≤ 4
+  pub width-pos : 1 ≤ width
+  pub width-most : width ≤ 4
+  pub box-most : width * height ≤ 16
+  pub few : count ≤ 698
+  pub inside : (count + width) * height ≤ n + height
+
+-- the exclusive-ors of height words from two places on
+unfoldable pub differences : List ℕ → ℕ → ℕ → ℕ → List ℕ
+differences words from to zero = []
+differences words from to (suc k) = differences words from to k ++ ((getD words (from + k) 0 ⊕ getD words (to + k) 0) ∷ [])
+
+-- the members of the first r remainders
+unfoldable pub membersOf : Code → ℕ → ℕ → ℕ → List ℕ
+membersOf c a b r = listed (r * c .b1) (columnMember c a b) (columnDifference c a b)
+
+-- what a gathering holds: the list, in its first count words
+pub record Members (g : Gathered) (ms : List ℕ) : Type 0 where
+  pub size : length (g .words) ≡ 16
+  pub most : g .count ≤ 16
+  pub held : take (g .count) (g .words) ≡ ms
+
+-- the joint entry of check cell k, and that it fits 64 bits
+pub record Joint (c : Code) (k r : ℕ) : Type 0 where
+  pub value : r ≡ checkJoint c k
+  pub below : r < 2 ^ (c .rv + c .rh)
+
+-- the joint entries of all check cells, in the first rv + rh words
+pub record Joints (c : Code) (words : List ℕ) : Type 0 where
+  pub size : length words ≡ 64
+  pub few : c .rv + c .rh ≤ 64
+  pub held : take (c .rv + c .rh) words ≡ jointsOf c

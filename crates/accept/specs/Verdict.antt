@@ -6,7 +6,7 @@
 --   conditionsVerdict  the three in order
 --   planVerdict        checks 1 to 10 in order: the answer of the test of a plan
 --   Accepted s         the plan s meets the rules of form and the three conditions, as document 01 words them
-use Prim.Native.Nat.{ℕ, suc, _+_, _-_}
+use Prim.Native.Nat.{ℕ, _+_, _-_}
 use mathlib.Core.List.{List}
 use Rattle.finite.specs.Search.{least}
 use Rattle.gf2.specs.Independence.{spanned}
@@ -23,7 +23,7 @@ unfoldable pub rowsVerdict : Code → Verdict
 rowsVerdict c = pairVerdict 8 (firstFailing (rowPairFree c) (λ i. i) (c .n1 - c .b1 + 1))
 
 unfoldable pub columnsVerdict : Code → Verdict
-columnsVerdict c = pairVerdict 9 (firstFailing (columnPairFree c) suc (c .n2 - c .b2 + 1))
+columnsVerdict c = pairVerdict 9 (firstFailing (columnPairFree c) (λ a. a + 1) (c .n2 - c .b2 + 1))
 
 unfoldable pub checksVerdict : Code → Verdict
 checksVerdict c =

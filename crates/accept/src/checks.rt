@@ -1,1 +1,60 @@
+// Check 10: the joint entries of the check cells are independent.
+ghost use mathlib.Core.Path.{_≡_};
+ghost use Prim.Native.Nat.{ℕ, _+_, _*_, _≤_, _<_};
+ghost use lib.ListN.{length, take};
+ghost use Rattle.boxcode.specs.Code.{Formed, checkJoint};
+ghost use Rattle.plan.specs.Header.{Framed};
+ghost use Rattle.plan.specs.Bytes.{codeWith};
+ghost use Rattle.accept.specs.Tables.{Joint, Joints};
+ghost use Rattle.accept.specs.Verdict.{checksVerdict};
+use gf2::empty_basis;
+use gf2::extend;
+use plan::entry::check_column;
+use plan::entry::check_row;
+use plan::entry::column_weight;
+use plan::entry::row_weight;
+use plan::header::Header;
+use plan::verdict::Verdict;
+use plan::verdict::refuse_if;
+
+// The joint entry of a check cell: its V entry, and its H entry above the rv bits of that.
+pub fn check_joint(plan: &[u8], h: Header, k: usize) -> u64
+    requires { ⌜ Framed (now plan) h ⌝ }
+    requires { ⌜ Formed (codeWith (now plan) h) ⌝ }
+    requires { ⌜ k < h .rv + h .rh ⌝ }
+    ensures { λ r. ⌜ Joint (codeWith (now (plan .entry)) h) k r ⌝ }
+{
+    let i = check_row(plan, h, k);
+    let j = check_column(plan, h, k);
+    let v = row_weight(plan, h, i, j);
+    let w = column_weight(plan, h, i, j);
+    v + (1u64 << h.rv) * w
+}
+
+// The joint entries of all check cells; zeros after them.
+pub fn check_joints(plan: &[u8], h: Header) -> [u64; 64]
+    requires { ⌜ Framed (now plan) h ⌝ }
+    requires { ⌜ Formed (codeWith (now plan) h) ⌝ }
+    ensures { λ r. ⌜ Joints (codeWith (now (plan .entry)) h) r ⌝ }
+{
+    let mut joints = [0u64; 64];
+    let count = h.rv + h.rh;
+    let mut k = 0;
+    while k < count {
+        joints[k] = check_joint(plan, h, k);
+        k += 1;
+    }
+    joints
+}
+
 // Check 10.
+pub fn checks_verdict(plan: &[u8], h: Header) -> Verdict
+    requires { ⌜ Framed (now plan) h ⌝ }
+    requires { ⌜ Formed (codeWith (now plan) h) ⌝ }
+    ensures { λ r. ⌜ r ≡ checksVerdict (codeWith (now (plan .entry)) h) ⌝ }
+{
+    let joints = check_joints(plan, h);
+    let count = h.rv + h.rh;
+    let taken = extend(empty_basis(), &joints[..count]).taken;
+    refuse_if(taken < count, 10, taken, 0)
+}

@@ -1,16 +1,18 @@
 -- From the checks of the header to the bounds that every later step uses.
 --
 --   small     where checks 2 to 4 pass, the header's numbers are in range
+--   position-fits   a cell's entry lies in its table
 --   framed    where checks 1 to 5 pass, the plan is framed
 --
 -- Assumes nothing.
 use mathlib.Core.Path.{_≡_, refl, sym, _∙_}
 use mathlib.Core.Bool.{Bool, true, false, not, _||_}
 use mathlib.Core.List.{List}
-use Prim.Native.Nat.{ℕ, _+_, _*_, _≤_, _<_}
-use native.Mathlib.Nat.{mul-le-mul}
+use Prim.Native.Nat.{ℕ, _+_, _*_, _%_, _≤_, _<_}
+use native.Mathlib.Nat.{mul-le-mul, mod-lt}
 use native.Mathlib.Omega.{arith}
 use borrow.Author.Tests.{ltb-false, eqb-false, eqb-true, not-false}
+use lib.Arith.{digits-lt}
 use lib.Dec.{eqb, ltb}
 use lib.ListN.{length}
 use Rattle.finite.proofs.Truth.{or-false}
@@ -57,6 +59,7 @@ small h p q r =
       rh-most = ltb-false 32 (h .rh) (widths .3);
       row-positions = mul-le-mul n1-most b2-most;
       column-positions = mul-le-mul n2-most b1-most;
+      box-positions = mul-le-mul b1-most b2-most;
     }
 
 -- a negated equality test that fails
@@ -83,3 +86,7 @@ framed s e =
       length-at = same (h .length) (planLength h) (three .3);
       long = same (length s) (planLength h) (offsets .1);
     }
+
+-- the position of a cell's entry lies in its table
+pub position-fits : (i j b n : ℕ) → i < n → 1 ≤ b → i * b + j % b < n * b
+position-fits i j b n l p = digits-lt l (mod-lt j p)

@@ -2,8 +2,10 @@
 --
 --   rowEntryAt, columnEntryAt        the entry at a position of the row table V and of the column table H
 --   checkRowAt, checkColumnAt        row and column of a pair of the check list
+--   Weight                           what is promised of a cell's entry
 --   codeOf                           all of a plan, as the code's mathematics has it
-use Prim.Native.Nat.{ℕ, _+_, _*_}
+use Prim.Native.Nat.{ℕ, _+_, _*_, _<_}
+use mathlib.Core.Path.{_≡_}
 use mathlib.Core.List.{List}
 use Rattle.layout.specs.Number.{u16At, u32At}
 use Rattle.boxcode.specs.Code.{Code}
@@ -39,3 +41,8 @@ codeWith s h = record {
 
 unfoldable pub codeOf : List ℕ → Code
 codeOf s = codeWith s (headerOf s)
+
+-- what is promised of the weight of a cell: the value, and that it fits 32 bits
+pub record Weight (w r : ℕ) : Type 0 where
+  pub value : r ≡ w
+  pub below : r < 4294967296

@@ -54,6 +54,7 @@ pub record Small (h : Header) : Type 0 where
   pub rh-most : h .rh ≤ 32
   pub row-positions : h .n1 * h .b2 ≤ 2048
   pub column-positions : h .n2 * h .b1 ≤ 2792
+  pub box-positions : h .b1 * h .b2 ≤ 16
 
 pub record Framed (s : List ℕ) (h : Header) : Type 0 where
   pub is : h ≡ headerOf s

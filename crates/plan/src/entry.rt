@@ -2,7 +2,9 @@
 ghost use mathlib.Core.Path.{_≡_};
 ghost use Prim.Native.Nat.{_+_, _*_, _<_};
 ghost use Rattle.layout.specs.Number.{Number16, Number32};
+ghost use Rattle.boxcode.specs.Code.{rowWeight, columnWeight};
 ghost use Rattle.plan.specs.Header.{Framed, headerLength, columnsStart, checksStart};
+ghost use Rattle.plan.specs.Bytes.{codeWith, Weight};
 use crate::header::Header;
 use layout::number::u16_at;
 use layout::number::u32_at;
@@ -41,4 +43,22 @@ pub fn check_column(plan: &[u8], h: Header, k: usize) -> usize
     ensures { λ r. ⌜ Number16 (now (plan .entry)) (checksStart h + 4 * k + 2) r ⌝ }
 {
     u16_at(plan, h.checks + 4 * k + 2)
+}
+
+// The V entry of a cell.
+pub fn row_weight(plan: &[u8], h: Header, i: usize, j: usize) -> u64
+    requires { ⌜ Framed (now plan) h ⌝ }
+    requires { ⌜ i < h .n1 ⌝ }
+    ensures { λ r. ⌜ Weight (rowWeight (codeWith (now (plan .entry)) h) i j) r ⌝ }
+{
+    row_entry(plan, h, i * h.b2 + j % h.b2)
+}
+
+// The H entry of a cell.
+pub fn column_weight(plan: &[u8], h: Header, i: usize, j: usize) -> u64
+    requires { ⌜ Framed (now plan) h ⌝ }
+    requires { ⌜ j < h .n2 ⌝ }
+    ensures { λ r. ⌜ Weight (columnWeight (codeWith (now (plan .entry)) h) i j) r ⌝ }
+{
+    column_entry(plan, h, j * h.b1 + i % h.b1)
 }

@@ -1,3 +1,5 @@
+use mathlib.Core.Path.{_≡_, refl, sym, ap, _∙_}
+use Rattle.accept.specs.Pairs.{pairVerdict}
 use borrow.Author.Needs.{needs}
 use Rattle.accept.proofs.pairs.pair_verdict.Statement.{statement}
 use Rattle.accept.proofs.pairs.pair_verdict.Tie as tie
@@ -15,7 +17,7 @@ accept-requires : tie.Need-accept-requires
 accept-requires c κs = search needs
 
 returns : tie.Need-returns
-returns c = ?
+returns c = c .refuse .ensures ∙ ap (pairVerdict (c .before .before .before .before .args .number)) (sym (c .before .before .pair .given .1))
 
 returns-2 : tie.Need-returns-2
 returns-2 c = search needs

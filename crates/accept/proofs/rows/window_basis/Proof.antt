@@ -1,3 +1,5 @@
+-- `accept::rows::window_basis` meets its contract. Assumes nothing.
+use mathlib.Core.Path.{_≡_, refl, sym, ap, _∙_}
 use borrow.Author.Needs.{needs}
 use Rattle.accept.proofs.rows.window_basis.Statement.{statement}
 use Rattle.accept.proofs.rows.window_basis.Tie as tie
@@ -24,7 +26,7 @@ extend-requires : tie.Need-extend-requires
 extend-requires c κs = search needs
 
 returns : tie.Need-returns
-returns c = ?
+returns c = rw (← (c .before .before .empty-basis .ensures)) (c .extend .ensures)
 
 pub window-basis-spec : {M : Type 1} → statement M
 window-basis-spec =

@@ -1,0 +1,7 @@
+-- The laws of the definitions of specs/.
+pub mod Pairing
+pub mod Windows
+pub mod RowPairs
+pub mod Strips
+pub mod JointEntries
+pub mod Acceptance
