@@ -76,7 +76,7 @@ module _ (c : Code) (F : Formed c) where
   pub hold-checks : Independent (c .rv + c .rh) everyone (checkJoint c) → checksVerdict c ≡ accepted
   unfolding checksVerdict
   hold-checks h =
-      let p = λ (k : ℕ). spanned k everyone (checkJoint c) (checkJoint c k) in
+      let p : ℕ → Bool = λ k. spanned k everyone (checkJoint c) (checkJoint c k) in
       let e : least (c .rv + c .rh) p ≡ c .rv + c .rh =
       eqb-true _ _ (sym (free-least (c .rv + c .rh) (checkJoint c)) ∙ independent-free (c .rv + c .rh) everyone (checkJoint c) h) in
       zero-at (c .rv + c .rh) p _ (λ k l. least-first (c .rv + c .rh) p k (omega arith))
