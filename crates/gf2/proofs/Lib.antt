@@ -12,3 +12,5 @@ pub mod Span
 pub mod Combination
 pub mod Combined
 pub mod Solving
+pub mod Swept
+pub mod Keeping

@@ -5,3 +5,4 @@ pub mod Independence
 pub mod Vectors
 pub mod Basis
 pub mod Solver
+pub mod Swept

@@ -1,9 +1,14 @@
 // Linear algebra over the field of two elements, on numbers of up to 64 bits. It knows nothing of sheets and plans.
 //
-// A basis is an array of 64 words: word k is 0, or a number whose leading digit is digit k. The laws about it are in proofs/Basis.antt.
+// Three forms of what some vectors span:
+//   a basis, an array of 64 words, of which word k is 0 or has digit k as its leading digit (reduce, extend; proofs/Basis.antt);
+//   a basis with the combination of vectors that makes each word (solver_of, solve; proofs/Solving.antt);
+//   words in the order of the vectors, the quickest for a few vectors (sweep, keep; proofs/Swept.antt, Keeping.antt).
 ghost use mathlib.Core.Path.{_≡_};
+ghost use Prim.Native.Nat.{min};
 ghost use Rattle.gf2.specs.Basis.{emptyWords, reduced, extended};
 ghost use Rattle.gf2.specs.Solver.{combined, solved, solverOf};
+ghost use Rattle.gf2.specs.Swept.{swept, KeptOf};
 
 // A basis after some vectors, and how many of them it took in before the first that it spanned already.
 pub struct Extended {
@@ -122,4 +127,49 @@ pub fn solve(basis: &[u64; 64], combos: &[u64; 64], target: u64) -> Solution
     } else {
         Solution::Outside
     }
+}
+
+// Words to take off numbers one after another, the first `taken` of the array, and how many members they are of.
+pub struct Kept {
+    pub words: [u64; 64],
+    pub taken: usize,
+}
+
+fn lesser(a: u64, b: u64) -> u64
+    ensures { λ r. ⌜ r ≡ min a b ⌝ }
+{
+    if b < a { b } else { a }
+}
+
+// What is left of v: each word is taken off where that makes it smaller. It has no branch that depends on the numbers.
+pub fn sweep(words: &[u64], v: u64) -> u64
+    ensures { λ r. ⌜ r ≡ swept (now (words .entry)) v ⌝ }
+{
+    let mut left = v;
+    let mut i = 0;
+    while i < words.len() {
+        left = lesser(left, left ^ words[i]);
+        i += 1;
+    }
+    left
+}
+
+// The members as those before them leave them, up to the first of which nothing is left; at most 64.
+pub fn keep(members: &[u64]) -> Kept
+    ensures { λ r. ⌜ KeptOf (now (members .entry)) r ⌝ }
+{
+    let mut words = [0u64; 64];
+    let mut i = 0;
+    while i < members.len() {
+        if 64 <= i {
+            return Kept { words, taken: i };
+        }
+        let left = sweep(&words[..i], members[i]);
+        if left == 0 {
+            return Kept { words, taken: i };
+        }
+        words[i] = left;
+        i += 1;
+    }
+    Kept { words, taken: i }
 }

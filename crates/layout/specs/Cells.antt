@@ -9,15 +9,18 @@
 --   firstUnused          the first such byte, or the number of bytes
 --   RightForm n1 n2 s    s has n1 rows of bytes, and its unused bits are 0 (01: "of the right form")
 --   bytesOf n1 n2 p      the bytes of the right form with the cells p
+--   turned n2 s i j      the bytes s with cell (i, j) turned over
+--   turnedIf b n2 s i j  the same if b holds, else s
 --
 -- A string of k bits of data is stored as one row of k cells.
 use Prim.Native.Nat.{ℕ, zero, suc, _+_, _-_, _*_, _/_, _%_, _^_, _<_, min}
 use mathlib.Core.Path.{_≡_}
-use mathlib.Core.Bool.{Bool}
+use mathlib.Core.Bool.{Bool, cond}
 use mathlib.Core.List.{List, [], _∷_, _++_}
 use lib.Dec.{leb}
-use lib.ListN.{length, getD}
+use lib.ListN.{length, getD, set}
 use Rattle.finite.specs.Search.{bit, numberOf, least}
+use Rattle.gf2.specs.Xor.{_⊕_}
 
 unfoldable pub rowBytes : ℕ → ℕ
 rowBytes n2 = (n2 + 7) / 8
@@ -55,3 +58,9 @@ byteFrom n2 p k = numberOf (usedBits n2 k) (λ t. p (k / rowBytes n2) (8 * (k % 
 
 unfoldable pub bytesOf : ℕ → ℕ → (ℕ → ℕ → Bool) → List ℕ
 bytesOf n1 n2 p = tabulate (sheetBytes n1 n2) (byteFrom n2 p)
+
+unfoldable pub turned : ℕ → List ℕ → ℕ → ℕ → List ℕ
+turned n2 s i j = set s (byteOf n2 i j) (getD s (byteOf n2 i j) 0 ⊕ 2 ^ (j % 8))
+
+abbrev pub turnedIf : Bool → ℕ → List ℕ → ℕ → ℕ → List ℕ
+turnedIf b n2 s i j = cond b (turned n2 s i j) s

@@ -1,0 +1,153 @@
+-- Laws of `swept`.
+--
+--   swept-xor       it is linear
+--   swept-append    by one word more
+--   swept-next, swept-end    by the words from place i on, as a loop goes
+--   sweep-none      no words take off what no vectors span
+--   sweep-more      a vector as the words leave it is the word that is missing for it
+--   sweep-kept      the words kept of a list take off what the list spans
+--   swept-taken     vectors after others: count them as the words of the others leave them
+--   swept-free      and so for being free
+--
+-- Assumes nothing.
+use mathlib.Core.Path.{_≡_, refl, sym, ap, ap₂, _∙_}
+use mathlib.Core.Bool.{Bool, _||_, cond}
+use mathlib.Core.List.{List, [], _∷_, _++_, reverseAux, map}
+use mathlib.Core.Logic.{⊎-elim}
+use Prim.Native.Nat.{ℕ, zero, suc, _+_, _*_, _/_, _%_, _^_, _≤_, _<_, min}
+use native.Mathlib.Nat.{mod-lt, zero-lt-suc, eq-zero-or-pos, div-eq-of-lt-le}
+use native.Mathlib.Decide.{decLe}
+use native.Mathlib.Omega.{arith}
+use lib.Bits as bits
+use lib.Bits.{bitXor, differ}
+use lib.Count.{leading-top}
+use lib.Dec.{eqb, eqb·suc-zero}
+use lib.ListN.{length, getD, drop, drop-of-length-le, length-map}
+use lib.Pow.{pow-pos, shr-mono}
+use lib.Seq.{drop-cons}
+use Rattle.gf2.specs.Xor.{_⊕_, pick}
+use Rattle.gf2.specs.Vectors.{spans, takenFrom, freeFrom}
+use Rattle.gf2.specs.Solver.{digit}
+use Rattle.gf2.specs.Swept.{swept, kept, SweepOf}
+use Rattle.gf2.proofs.Xor.{xor-swap, xor-zero-right, pick-differ}
+use Rattle.gf2.proofs.Independence.{pick-true, pick-false}
+use Rattle.gf2.proofs.Vectors.{taken-none, taken-more}
+use Rattle.gf2.proofs.Triangle.{pow-double}
+use Rattle.gf2.proofs.Combination.{digit-xor}
+
+below-power : (n : ℕ) → n < 2 ^ n
+below-power zero = omega arith
+below-power (suc n) = omega (arith, below-power n, pow-double n, pow-pos n)
+
+-- a number with its lowest digit turned over
+turned : (q : ℕ) → bitXor q 1 ≡ q / 2 * 2 + differ (q % 2) 1
+turned q = bits.xor-step q 1 ∙ ap (λ (x : ℕ). x * 2 + differ (q % 2) 1) (bits.xor-zero-r (q / 2))
+
+-- the digits of v ⊕ w from w's leading digit on: those of v, the lowest turned over
+high : (j w v : ℕ) → 2 ^ j ≤ w → w < 2 ^ suc j → (v ⊕ w) / 2 ^ j ≡ v / 2 ^ j / 2 * 2 + differ (v / 2 ^ j % 2) 1
+unfolding _⊕_
+high j w v l u =
+    let d = pow-double j in
+    let one : w / 2 ^ j ≡ 1 = div-eq-of-lt-le {k = 1} (2 ^ j) {m = w} (omega arith) (omega arith) in
+    bits.xor-shr v w j ∙ ap (λ (x : ℕ). bitXor (v / 2 ^ j) x) one ∙ turned (v / 2 ^ j)
+
+-- taking w off makes v smaller exactly where v has w's leading digit
+min-digit : (j w v : ℕ) → 2 ^ j ≤ w → w < 2 ^ suc j → min v (v ⊕ w) ≡ v ⊕ pick (digit j v) w
+unfolding digit
+min-digit j w v l u = go (v / 2 ^ j % 2) refl (mod-lt (v / 2 ^ j) (zero-lt-suc 1)) (high j w v l u)
+  where
+    go : (t : ℕ) → v / 2 ^ j % 2 ≡ t → t < 2 → (v ⊕ w) / 2 ^ j ≡ v / 2 ^ j / 2 * 2 + differ t 1 → min v (v ⊕ w) ≡ v ⊕ pick (eqb t 1) w
+    go zero e b h = keep (decLe (v ⊕ w) v) ∙ sym (xor-zero-right v) ∙ ap (λ (x : ℕ). v ⊕ x) (sym (pick-false w))
+      where
+        keep : Dec ((v ⊕ w) ≤ v) → min v (v ⊕ w) ≡ v
+        keep (yes p) = absurd (omega (arith, shr-mono j p))
+        keep (no p) = omega arith
+    go (suc zero) e b h = take (decLe v (v ⊕ w)) ∙ ap (λ (x : ℕ). v ⊕ x) (sym (pick-true w))
+      where
+        take : Dec (v ≤ (v ⊕ w)) → min v (v ⊕ w) ≡ v ⊕ w
+        take (yes p) = absurd (omega (arith, shr-mono j p))
+        take (no p) = omega arith
+    go (suc (suc t)) e b h = absurd (omega arith)
+
+min-self : (n : ℕ) → min n n ≡ n
+min-self n = omega arith
+
+min-xor : (w x y : ℕ) → min (x ⊕ y) ((x ⊕ y) ⊕ w) ≡ min x (x ⊕ w) ⊕ min y (y ⊕ w)
+min-xor w x y = ⊎-elim (λ e. rw e none) some (eq-zero-or-pos w)
+  where
+    none : min (x ⊕ y) ((x ⊕ y) ⊕ 0) ≡ min x (x ⊕ 0) ⊕ min y (y ⊕ 0)
+    none = rw (xor-zero-right (x ⊕ y), xor-zero-right x, xor-zero-right y, min-self (x ⊕ y), min-self x, min-self y)
+
+    some : 0 < w → min (x ⊕ y) ((x ⊕ y) ⊕ w) ≡ min x (x ⊕ w) ⊕ min y (y ⊕ w)
+    some p =
+        let t = leading-top w w p (below-power w) in
+        min-digit (t .0) w (x ⊕ y) (t .2) (t .3)
+        ∙ ap (λ (b : ℕ). (x ⊕ y) ⊕ b) (ap (λ (b : Bool). pick b w) (digit-xor (t .0) x y) ∙ pick-differ (digit (t .0) x) (digit (t .0) y) w)
+        ∙ xor-swap x y (pick (digit (t .0) x) w) (pick (digit (t .0) y) w)
+        ∙ sym (ap₂ _⊕_ (min-digit (t .0) w x (t .2) (t .3)) (min-digit (t .0) w y (t .2) (t .3)))
+
+pub swept-xor : (ws : List ℕ) (x y : ℕ) → swept ws (x ⊕ y) ≡ swept ws x ⊕ swept ws y
+unfolding swept
+swept-xor [] x y = refl
+swept-xor (w ∷ ws) x y = ap (swept ws) (min-xor w x y) ∙ swept-xor ws (min x (x ⊕ w)) (min y (y ⊕ w))
+
+pub swept-append : (ws : List ℕ) (r x : ℕ) → swept (ws ++ (r ∷ [])) x ≡ min (swept ws x) (swept ws x ⊕ r)
+unfolding swept
+swept-append [] r x = refl
+swept-append (w ∷ ws) r x = swept-append ws r (min x (x ⊕ w))
+
+pub swept-next : (ws : List ℕ) (i x : ℕ) → i < length ws → swept (drop i ws) x ≡ swept (drop (suc i) ws) (min x (x ⊕ getD ws i 0))
+swept-next ws i x l = rw (drop-cons ws i 0 l) (unfold swept in refl)
+
+pub swept-end : (ws : List ℕ) (i x : ℕ) → length ws ≤ i → swept (drop i ws) x ≡ x
+swept-end ws i x l = rw (drop-of-length-le ws l) (unfold swept in refl)
+
+min-zero : (a b : ℕ) → eqb (min a b) 0 ≡ (eqb a 0 || eqb b 0)
+min-zero zero b = ap (λ (n : ℕ). eqb n 0) e
+  where
+    e : min 0 b ≡ 0
+    e = omega arith
+min-zero (suc a) zero = ap (λ (n : ℕ). eqb n 0) e ∙ rw (eqb·suc-zero a)
+  where
+    e : min (suc a) 0 ≡ 0
+    e = omega arith
+min-zero (suc a) (suc b) = ap (λ (n : ℕ). eqb n 0) e ∙ rw (eqb·suc-zero a, eqb·suc-zero b, eqb·suc-zero (min a b))
+  where
+    e : min (suc a) (suc b) ≡ suc (min a b)
+    e = omega arith
+
+pub sweep-none : SweepOf [] []
+unfolding swept spans
+sweep-none x = refl
+
+pub sweep-more : (vs ws : List ℕ) (m : ℕ) → SweepOf vs ws → SweepOf (m ∷ vs) (ws ++ (swept ws m ∷ []))
+unfolding spans
+sweep-more vs ws m h x =
+    ap (λ (y : ℕ). eqb y 0) (swept-append ws (swept ws m) x) ∙ min-zero (swept ws x) (swept ws x ⊕ swept ws m)
+    ∙ ap₂ _||_ (h x) (ap (λ (y : ℕ). eqb y 0) (sym (swept-xor ws x m)) ∙ h (x ⊕ m))
+
+pub sweep-kept : (ms : List ℕ) (vs ws : List ℕ) → SweepOf vs ws → SweepOf (reverseAux ms vs) (kept ws ms)
+unfolding kept
+sweep-kept [] vs ws h = h
+sweep-kept (m ∷ ms) vs ws h = sweep-kept ms (m ∷ vs) (ws ++ (swept ws m ∷ [])) (sweep-more vs ws m h)
+
+-- what vectors us over vs span, as the words of vs leave it
+swept-spans : (us vs ws : List ℕ) → SweepOf vs ws → (x : ℕ) → spans (us ++ vs) x ≡ spans (map (swept ws) us) (swept ws x)
+unfolding spans
+swept-spans [] vs ws h x = sym (h x)
+swept-spans (u ∷ us) vs ws h x =
+    ap₂ _||_ (swept-spans us vs ws h x) (swept-spans us vs ws h (x ⊕ u) ∙ ap (spans (map (swept ws) us)) (swept-xor ws x u))
+
+taken-over : (ms us vs ws : List ℕ) → SweepOf vs ws → takenFrom (us ++ vs) ms ≡ takenFrom (map (swept ws) us) (map (swept ws) ms)
+taken-over [] us vs ws h = taken-none (us ++ vs) ∙ sym (taken-none (map (swept ws) us))
+taken-over (m ∷ ms) us vs ws h =
+    taken-more (us ++ vs) m ms
+    ∙ ap₂ (λ (t : Bool) (n : ℕ). cond t 0 (suc n)) (swept-spans us vs ws h m) (taken-over ms (m ∷ us) vs ws h)
+    ∙ sym (taken-more (map (swept ws) us) (swept ws m) (map (swept ws) ms))
+
+pub swept-taken : (ms vs ws : List ℕ) → SweepOf vs ws → takenFrom vs ms ≡ takenFrom [] (map (swept ws) ms)
+swept-taken ms vs ws h = taken-over ms [] vs ws h
+
+pub swept-free : (ms vs ws : List ℕ) → SweepOf vs ws → freeFrom vs ms ≡ freeFrom [] (map (swept ws) ms)
+unfolding freeFrom
+swept-free ms vs ws h = ap₂ eqb (swept-taken ms vs ws h) (sym (length-map ms (swept ws)))

@@ -1,0 +1,4 @@
+-- The laws of the definitions of specs/.
+pub mod Form
+pub mod Turned
+pub mod Unused

@@ -1,0 +1,148 @@
+-- One cell turned over:
+--
+--   bit-xor, bit-power    the digits of an exclusive-or, and of a power of two
+--   turned-form           the right form is kept
+--   turned-cell           the cells are the old ones, but the one that was turned
+--   turned-bytes          so the bytes of cells p become those of p with the cell turned
+--
+-- Assumes nothing.
+use mathlib.Core.Path.{_≡_, refl, sym, ap, ap₂, _∙_}
+use mathlib.Core.Bool.{Bool, true, false, xor, _&&_}
+use mathlib.Core.List.{List}
+use Prim.Native.Nat.{ℕ, zero, suc, _*_, _/_, _%_, _^_, _<_}
+use native.Mathlib.Nat.{mod-lt, zero-lt-suc, div-one, pow-succ', div-div-eq-div-mul}
+use native.Mathlib.Decide.{ℕ-discrete}
+use native.Mathlib.Omega.{arith}
+use borrow.Author.Tests.{eq-eqb, ne-eqb}
+use lib.Dec.{eqb}
+use lib.ListN.{length, getD, set, length-set}
+use lib.Seq.{getD-set-same, getD-set-other}
+use lib.Bits as bits
+use lib.Pow.{pow-lt}
+use Rattle.finite.specs.Search.{bit}
+use Rattle.finite.proofs.Truth.{xor-none}
+use Rattle.gf2.specs.Xor.{_⊕_}
+use Rattle.gf2.proofs.Xor.{xor-below}
+use Rattle.layout.specs.Cells.{rowBytes, sheetBytes, byteOf, cellOf, usedBits, RightForm, bytesOf, turned}
+use Rattle.layout.proofs.Form.{bit-none, byte-inside, byte-row, byte-place, byte-digit, bytes-form, bytes-cell, same-bytes}
+
+-- ---- digits
+
+low : (a b : ℕ) → a < 2 → b < 2 → eqb (bits.bitXor a b) 1 ≡ xor (eqb a 1) (eqb b 1)
+unfolding xor
+low zero zero la lb = refl
+low zero (suc zero) la lb = refl
+low zero (suc (suc b)) la lb = absurd (omega arith)
+low (suc zero) zero la lb = refl
+low (suc zero) (suc zero) la lb = refl
+low (suc zero) (suc (suc b)) la lb = absurd (omega arith)
+low (suc (suc a)) b la lb = absurd (omega arith)
+
+pub bit-xor : (a b k : ℕ) → bit (a ⊕ b) k ≡ xor (bit a k) (bit b k)
+unfolding bit _⊕_
+bit-xor a b k =
+    ap (λ (x : ℕ). eqb (x % 2) 1) (bits.xor-shr a b k)
+    ∙ ap (λ (x : ℕ). eqb x 1) (bits.xor-mod (a / 2 ^ k) (b / 2 ^ k) 1)
+    ∙ low (a / 2 ^ k % 2) (b / 2 ^ k % 2) (mod-lt (a / 2 ^ k) (zero-lt-suc 1)) (mod-lt (b / 2 ^ k) (zero-lt-suc 1))
+
+bit-zero : (x : ℕ) → bit x 0 ≡ eqb (x % 2) 1
+unfolding bit
+bit-zero x = ap (λ (y : ℕ). eqb (y % 2) 1) (div-one x)
+
+bit-suc : (x k : ℕ) → bit x (suc k) ≡ bit (x / 2) k
+unfolding bit
+bit-suc x k = ap (λ (y : ℕ). eqb (y % 2) 1) (ap (λ (z : ℕ). x / z) (pow-succ' 2 k) ∙ sym (div-div-eq-div-mul x 2 (2 ^ k)))
+
+bit-same : (a : ℕ) → bit (2 ^ a) a ≡ true
+bit-same zero = bit-zero 1
+bit-same (suc a) =
+    bit-suc (2 ^ suc a) a
+    ∙ ap (λ (x : ℕ). bit x a) (let e : 2 ^ suc a ≡ 2 * 2 ^ a = pow-succ' 2 a in let r : 2 ^ suc a / 2 ≡ 2 ^ a = omega arith in r)
+    ∙ bit-same a
+
+bit-other : (a k : ℕ) → (a ≡ k → ⊥) → bit (2 ^ a) k ≡ false
+bit-other zero zero h = absurd (h refl)
+bit-other zero (suc k) h = bit-suc 1 k ∙ bit-none k
+bit-other (suc a) zero h =
+    bit-zero (2 ^ suc a)
+    ∙ ap (λ (x : ℕ). eqb x 1) (let e : 2 ^ suc a ≡ 2 * 2 ^ a = pow-succ' 2 a in let r : 2 ^ suc a % 2 ≡ 0 = omega arith in r)
+bit-other (suc a) (suc k) h =
+    bit-suc (2 ^ suc a) k
+    ∙ ap (λ (x : ℕ). bit x k) (let e : 2 ^ suc a ≡ 2 * 2 ^ a = pow-succ' 2 a in let r : 2 ^ suc a / 2 ≡ 2 ^ a = omega arith in r)
+    ∙ bit-other a k (λ e. h (ap suc e))
+
+pub bit-power : (a k : ℕ) → bit (2 ^ a) k ≡ eqb a k
+bit-power a k = go (ℕ-discrete a k)
+  where
+    go : Dec (a ≡ k) → bit (2 ^ a) k ≡ eqb a k
+    go (yes e) = ap (λ (x : ℕ). bit (2 ^ a) x) (sym e) ∙ bit-same a ∙ sym (eq-eqb a k e)
+    go (no h) = bit-other a k h ∙ sym (ne-eqb a k h)
+
+-- ---- the cell turned over
+
+module _ (n1 n2 : ℕ) (s : List ℕ) (f : RightForm n1 n2 s) (i j : ℕ) (li : i < n1) (lj : j < n2) where
+  inside : byteOf n2 i j < length s
+  inside = let e = f .size in let b : byteOf n2 i j < sheetBytes n1 n2 = byte-inside n2 j lj n1 i li in omega arith
+
+  pub turned-form : RightForm n1 n2 (turned n2 s i j)
+  unfolding turned
+  turned-form = record {
+    size = length-set s (byteOf n2 i j) (getD s (byteOf n2 i j) 0 ⊕ 2 ^ (j % 8)) ∙ f .size;
+    used = λ k l. go k l (ℕ-discrete k (byteOf n2 i j));
+  }
+    where
+      x : ℕ
+      x = getD s (byteOf n2 i j) 0 ⊕ 2 ^ (j % 8)
+
+      go : (k : ℕ) → k < sheetBytes n1 n2 → Dec (k ≡ byteOf n2 i j) → getD (set s (byteOf n2 i j) x) k 0 < 2 ^ usedBits n2 k
+      go k l (yes e) =
+          rw (e, getD-set-same s (byteOf n2 i j) x 0 inside)
+          (xor-below (usedBits n2 (byteOf n2 i j)) (getD s (byteOf n2 i j) 0) (2 ^ (j % 8)) (f .used (byteOf n2 i j) (byte-inside n2 j lj n1 i li)) (pow-lt (byte-digit n2 j lj i)))
+      go k l (no e) = rw (getD-set-other s (byteOf n2 i j) k x 0 e) (f .used k l)
+
+  pub turned-cell : (a b : ℕ) → a < n1 → b < n2 → cellOf n2 (turned n2 s i j) a b ≡ xor (cellOf n2 s a b) (eqb i a && eqb j b)
+  unfolding turned cellOf
+  turned-cell a b la lb = go (ℕ-discrete (byteOf n2 a b) (byteOf n2 i j))
+    where
+      x : ℕ
+      x = getD s (byteOf n2 i j) 0 ⊕ 2 ^ (j % 8)
+
+      -- in the same byte the rows are equal, and the columns exactly if the digits are
+      digit : byteOf n2 a b ≡ byteOf n2 i j → eqb (j % 8) (b % 8) ≡ (eqb i a && eqb j b)
+      digit e =
+          let r : i ≡ a = sym (byte-row n2 j lj i) ∙ ap (λ (k : ℕ). k / rowBytes n2) (sym e) ∙ byte-row n2 b lb a in
+          let q : j / 8 ≡ b / 8 = sym (byte-place n2 j lj i) ∙ ap (λ (k : ℕ). k % rowBytes n2) (sym e) ∙ byte-place n2 b lb a in
+          rw (eq-eqb i a r) (same q (ℕ-discrete j b))
+        where
+          same : j / 8 ≡ b / 8 → Dec (j ≡ b) → eqb (j % 8) (b % 8) ≡ eqb j b
+          same q (yes h) = eq-eqb (j % 8) (b % 8) (ap (λ (k : ℕ). k % 8) h) ∙ sym (eq-eqb j b h)
+          same q (no h) = ne-eqb (j % 8) (b % 8) (λ w. h (omega arith)) ∙ sym (ne-eqb j b h)
+
+      other : (byteOf n2 a b ≡ byteOf n2 i j → ⊥) → (eqb i a && eqb j b) ≡ false
+      other h = away (ℕ-discrete i a)
+        where
+          away : Dec (i ≡ a) → (eqb i a && eqb j b) ≡ false
+          away (yes r) = rw (eq-eqb i a r) (ne-eqb j b (λ w. h (ap₂ (byteOf n2) (sym r) (sym w))))
+          away (no r) = rw (ne-eqb i a r)
+
+      go : Dec (byteOf n2 a b ≡ byteOf n2 i j) → bit (getD (set s (byteOf n2 i j) x) (byteOf n2 a b) 0) (b % 8) ≡ xor (bit (getD s (byteOf n2 a b) 0) (b % 8)) (eqb i a && eqb j b)
+      go (yes e) =
+          ap (λ (k : ℕ). bit (getD (set s (byteOf n2 i j) x) k 0) (b % 8)) e
+          ∙ ap (λ (y : ℕ). bit y (b % 8)) (getD-set-same s (byteOf n2 i j) x 0 inside)
+          ∙ bit-xor (getD s (byteOf n2 i j) 0) (2 ^ (j % 8)) (b % 8)
+          ∙ ap₂ xor (ap (λ (k : ℕ). bit (getD s k 0) (b % 8)) (sym e)) (bit-power (j % 8) (b % 8) ∙ digit e)
+      go (no e) =
+          ap (λ (y : ℕ). bit y (b % 8)) (getD-set-other s (byteOf n2 i j) (byteOf n2 a b) x 0 e)
+          ∙ sym (xor-none (bit (getD s (byteOf n2 a b) 0) (b % 8)))
+          ∙ ap (xor (bit (getD s (byteOf n2 a b) 0) (b % 8))) (sym (other e))
+
+pub turned-bytes : (n1 n2 : ℕ) (p q : ℕ → ℕ → Bool) (i j : ℕ) → i < n1 → j < n2
+    → ((a b : ℕ) → a < n1 → b < n2 → xor (p a b) (eqb i a && eqb j b) ≡ q a b) → turned n2 (bytesOf n1 n2 p) i j ≡ bytesOf n1 n2 q
+turned-bytes n1 n2 p q i j li lj h =
+    let f = bytes-form n1 n2 p in
+    same-bytes n1 n2 (turned n2 (bytesOf n1 n2 p) i j) (bytesOf n1 n2 q) (turned-form n1 n2 (bytesOf n1 n2 p) f i j li lj) (bytes-form n1 n2 q)
+    (λ a b la lb.
+    turned-cell n1 n2 (bytesOf n1 n2 p) f i j li lj a b la lb
+    ∙ ap (λ (t : Bool). xor t (eqb i a && eqb j b)) (bytes-cell n1 n2 p a b la lb)
+    ∙ h a b la lb
+    ∙ sym (bytes-cell n1 n2 q a b la lb))

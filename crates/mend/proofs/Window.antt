@@ -1,0 +1,182 @@
+-- Patterns of a window, and the fit by its V entries.
+--
+--   run-sum           a sum that is 0 outside a run of places is the sum over the run
+--   rows-fit          the positions of a window are positions of the table
+--   gathered          an array with the window's entries
+--   in-window, window-place, window-sum   a choice among them, as positions of the table: it is in the window, and has their sum
+--   pattern-sum       a pattern in the window has the sum of its choice
+--   window-below, window-free   the entries have at most 64 bits; under the conditions they are independent
+--   fit-pattern, fit-nothing    so what the solver finds is the pattern with the V sum, and where it finds none there is none
+--
+-- Assumes nothing.
+use mathlib.Core.Path.{_≡_, refl, sym, ap, ap₂, _∙_}
+use mathlib.Core.Bool.{Bool, true, _&&_}
+use mathlib.Core.List.{List, [], append-nil}
+use Prim.Native.Nat.{ℕ, _+_, _-_, _*_, _/_, _^_, _≤_, _<_}
+use native.Mathlib.Nat.{add-mul, mul-le-mul, mul-le-mul-right, le-div-iff-mul-le, div-lt-iff-lt-mul, lt-of-lt-of-le}
+use native.Mathlib.Omega.{arith}
+use lib.ListN.{length, getD, take}
+use lib.Pow.{pow-mono}
+use lib.Seq.{ext-getD, length-take-le, getD-take}
+use Rattle.gf2.specs.Xor.{pick}
+use Rattle.gf2.specs.Sum.{xorSum, chosenSum}
+use Rattle.gf2.specs.Independence.{Independent}
+use Rattle.gf2.specs.Vectors.{spans, freeFrom, listed}
+use Rattle.gf2.specs.Basis.{Below}
+use Rattle.gf2.specs.Solver.{digit, combination, solution, solved, solverOf}
+use Rattle.gf2.specs.declared.Solution.the-variants.{Combination, Outside}
+use Rattle.gf2.proofs.Sum.{sum-equal}
+use Rattle.gf2.proofs.Independence.{chosen-spanned, independent-free}
+use Rattle.gf2.proofs.Vectors.{listed-length, spanned-listed, free-listed}
+use Rattle.gf2.proofs.Span.{listed-at}
+use Rattle.gf2.proofs.Spans.{spans-turned}
+use Rattle.gf2.proofs.Combination.{combination-listed}
+use Rattle.gf2.proofs.Solving.{solver-solves, solution-found, solution-outside}
+use Rattle.finite.specs.Search.{bit, within}
+use Rattle.finite.proofs.Truth.{Truth, is-true, is-false, true-or-false, not-true, and-left, or-left, within-from, within-to, in-within}
+use Rattle.boxcode.specs.Code.{Code, Formed}
+use Rattle.boxcode.specs.Condition.{Conditions, rowMember}
+use Rattle.boxcode.proofs.Image.{sum-image, unpicked}
+use Rattle.boxcode.proofs.Pattern.{InWindow}
+use Rattle.boxcode.proofs.Condition.{rows-free}
+use Rattle.mend.specs.Window.{entryAt, windowEntries, Gathered, inWindow, windowSum}
+
+pub run-sum : (n a m : ℕ) (f : ℕ → ℕ) → a + m ≤ n → ((t : ℕ) → (a ≤ t → t < a + m → ⊥) → f t ≡ 0) → xorSum n f ≡ xorSum m (λ k. f (a + k))
+run-sum n a m f on off =
+    sum-image m n (λ k. a + k) (record { below = λ k l. omega arith; different = λ k l lk ll e. omega arith })
+    f (λ k. f (a + k)) (λ k l. refl)
+    (λ t lt miss. off t (λ from to. miss (t - a) (omega arith) (omega arith)))
+
+pub rows-fit : (i b n w : ℕ) → i + b ≤ n → i * w + b * w ≤ n * w
+rows-fit i b n w l = let e : (i + b) * w ≡ i * w + b * w = add-mul i b w in let m : (i + b) * w ≤ n * w = mul-le-mul-right w l in omega arith
+
+pub gathered : (c : Code) (i : ℕ) (words : List ℕ) → c .b1 * c .b2 ≤ 16 → length words ≡ 16
+    → ((k : ℕ) → k < c .b1 * c .b2 → getD words k 0 ≡ entryAt c i k) → Gathered c i words
+unfolding windowEntries
+gathered c i words few size at = record {
+  size = size;
+  entries =
+      let n = c .b1 * c .b2 in
+      let l : length (take n words) ≡ n = length-take-le n words (omega arith) in
+      ext-getD 0 (take n words) (listed n (λ k. true) (entryAt c i)) (l ∙ sym (listed-length n (entryAt c i)))
+      (λ k lk. let u : k < n = omega arith in getD-take n words k 0 u ∙ at k u ∙ sym (listed-at n (entryAt c i) k u));
+}
+
+module _ (c : Code) (F : Formed c) (i : ℕ) (on : i + c .b1 ≤ c .n1) where
+  at-most : c .b1 * c .b2 ≤ 16
+  at-most = mul-le-mul (F .b1-most) (F .b2-most)
+
+  -- the entries of a pattern in the window
+  pub pattern-sum : (p : ℕ → Bool) → InWindow c i p → chosenSum (c .n1 * c .b2) p (c .rowEntry) ≡ windowSum c i (λ k. p (i * c .b2 + k))
+  unfolding windowSum
+  pattern-sum p w =
+      run-sum (c .n1 * c .b2) (i * c .b2) (c .b1 * c .b2) (λ k. pick (p k) (c .rowEntry k)) (rows-fit i (c .b1) (c .n1) (c .b2) on)
+      (λ k miss. unpicked (p k) (c .rowEntry k) (not-true (p k) (λ t. out k (w k t) miss)))
+    where
+      out : (k : ℕ) → within i (c .b1) (k / c .b2) ≡ true → (i * c .b2 ≤ k → k < i * c .b2 + c .b1 * c .b2 → ⊥) → ⊥
+      out k t miss =
+          let e : (i + c .b1) * c .b2 ≡ i * c .b2 + c .b1 * c .b2 = add-mul i (c .b1) (c .b2) in
+          let u : k < (i + c .b1) * c .b2 = div-lt-iff-lt-mul (F .b2-pos) .0 (within-to i (c .b1) (k / c .b2) t) in
+          miss (le-div-iff-mul-le (F .b2-pos) .0 (within-from i (c .b1) (k / c .b2) t)) (omega arith)
+
+  pub in-window : (m : ℕ → Bool) → InWindow c i (inWindow c i m)
+  unfolding inWindow
+  in-window m k t =
+      let w = and-left (within (i * c .b2) (c .b1 * c .b2) k) (m (k - i * c .b2)) t in
+      let e : (i + c .b1) * c .b2 ≡ i * c .b2 + c .b1 * c .b2 = add-mul i (c .b1) (c .b2) in
+      let u : k < i * c .b2 + c .b1 * c .b2 = within-to (i * c .b2) (c .b1 * c .b2) k w in
+      in-within i (c .b1) (k / c .b2) (le-div-iff-mul-le (F .b2-pos) .1 (within-from (i * c .b2) (c .b1 * c .b2) k w))
+      (div-lt-iff-lt-mul (F .b2-pos) .1 (let z : k < (i + c .b1) * c .b2 = omega arith in z))
+
+  pub window-place : (m : ℕ → Bool) (k : ℕ) → k < c .b1 * c .b2 → inWindow c i m (i * c .b2 + k) ≡ m k
+  unfolding inWindow
+  window-place m k l =
+      ap₂ (λ (b : Bool) (x : ℕ). b && m x) (in-within (i * c .b2) (c .b1 * c .b2) (i * c .b2 + k) (omega arith) (omega arith))
+      (let e : i * c .b2 + k - i * c .b2 ≡ k = omega arith in e)
+
+  pub window-sum : (m : ℕ → Bool) → chosenSum (c .n1 * c .b2) (inWindow c i m) (c .rowEntry) ≡ windowSum c i m
+  window-sum m =
+      pattern-sum (inWindow c i m) (in-window m)
+      ∙ (unfold windowSum in
+      sum-equal (c .b1 * c .b2) (λ k. pick (inWindow c i m (i * c .b2 + k)) (entryAt c i k)) (λ k. pick (m k) (entryAt c i k))
+      (λ k l. ap (λ (b : Bool). pick b (entryAt c i k)) (window-place m k l)))
+
+  window-length : length (windowEntries c i) ≡ c .b1 * c .b2
+  unfolding windowEntries
+  window-length = listed-length (c .b1 * c .b2) (entryAt c i)
+
+  pub window-below : Below 64 (windowEntries c i)
+  unfolding windowEntries
+  window-below k l =
+      let n = c .b1 * c .b2 in
+      let e : length (listed n (λ k. true) (entryAt c i)) ≡ n = window-length in
+      let lk : k < n = omega arith in
+      let f : i * c .b2 + n ≤ c .n1 * c .b2 = rows-fit i (c .b1) (c .n1) (c .b2) on in
+      let b : entryAt c i k < 2 ^ c .rv = F .row-entries (i * c .b2 + k) (omega arith) in
+      let p : 2 ^ c .rv ≤ 2 ^ 64 = pow-mono (let r : c .rv ≤ 64 = (let r = F .rv-most in omega arith) in r) in
+      rw (listed-at n (entryAt c i) k lk) (lt-of-lt-of-le b p)
+
+  -- the window twice: no nonempty choice has the sum 0
+  pub window-free : Conditions c → freeFrom [] (windowEntries c i) ≡ true
+  unfolding windowEntries
+  window-free K = sym (free-listed (c .b1 * c .b2) (λ k. true) (entryAt c i)) ∙ independent-free (c .b1 * c .b2) (λ k. true) (entryAt c i) independent
+    where
+      independent : Independent (c .b1 * c .b2) (λ k. true) (entryAt c i)
+      independent m w z k l =
+          let f : i * c .b2 + c .b1 * c .b2 ≤ c .n1 * c .b2 = rows-fit i (c .b1) (c .n1) (c .b2) on in
+          sym (window-place m k l)
+          ∙ rows-free c K i i on on (inWindow c i m)
+          (λ j t. unfold rowMember in or-left (within i (c .b1) (j / c .b2)) (within i (c .b1) (j / c .b2)) (in-window m j t))
+          (window-sum m ∙ (unfold windowSum in z)) (i * c .b2 + k) (omega arith)
+
+  -- what the solver answers
+  module _ (K : Conditions c) (v : ℕ) (small : v < 2 ^ 64) where
+    entries : List ℕ
+    entries = windowEntries c i
+
+    few : length entries ≤ 64
+    unfolding entries
+    few = let e = window-length in let l = at-most in omega arith
+
+    answer-is : solved (solverOf entries .basis) (solverOf entries .combos) v ≡ solution entries v
+    unfolding entries
+    answer-is = solver-solves (windowEntries c i) few window-below (window-free K) v small
+
+    made : (x : ℕ) → windowSum c i (bit x) ≡ combination entries x
+    unfolding windowSum windowEntries entries bit digit
+    made x = sym (combination-listed (c .b1 * c .b2) (entryAt c i) x)
+
+    spans-chosen : (m : ℕ → Bool) → windowSum c i m ≡ v → spans entries v ≡ true
+    unfolding windowSum windowEntries entries
+    spans-chosen m q =
+        sym (ap (λ (l : List ℕ). spans l v) (append-nil (windowEntries c i)))
+        ∙ sym (spans-turned (windowEntries c i) [] v)
+        ∙ sym (spanned-listed (c .b1 * c .b2) (λ k. true) (entryAt c i) v)
+        ∙ chosen-spanned (c .b1 * c .b2) (λ k. true) (entryAt c i) v m (λ k t. refl) q
+
+    answer-found : spans entries v ≡ true → (y : ℕ) × (solution entries v ≡ Combination y) × (y < 2 ^ length entries) × (combination entries y ≡ v)
+    unfolding entries
+    answer-found t = solution-found (windowEntries c i) few window-below (window-free K) v small t
+
+    pub fit-pattern : (x : ℕ) → solved (solverOf (windowEntries c i) .basis) (solverOf (windowEntries c i) .combos) v ≡ Combination x
+        → (x < 2 ^ (c .b1 * c .b2)) × (windowSum c i (bit x) ≡ v)
+    unfolding entries
+    fit-pattern x e = go (true-or-false (spans (windowEntries c i) v))
+      where
+        go : Truth (spans (windowEntries c i) v) → (x < 2 ^ (c .b1 * c .b2)) × (windowSum c i (bit x) ≡ v)
+        go (is-true t) =
+            let w = answer-found t in
+            let q : x ≡ w .0 = cc (answer-is, w .1) in
+            rw q (rw window-length at (w .2), made (w .0) ∙ w .3)
+        go (is-false t) =
+            let f = solution-outside (windowEntries c i) v t in
+            let z : _≡_ {A = ℕ} 0 1 = cc (answer-is) in
+            absurd (omega arith)
+
+    pub fit-nothing : solved (solverOf (windowEntries c i) .basis) (solverOf (windowEntries c i) .combos) v ≡ Outside
+        → (m : ℕ → Bool) → windowSum c i m ≡ v → ⊥
+    unfolding entries
+    fit-nothing e m q =
+        let w = answer-found (spans-chosen m q) in
+        let z : _≡_ {A = ℕ} 0 1 = cc (answer-is, w .1) in
+        omega arith

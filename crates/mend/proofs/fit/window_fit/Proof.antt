@@ -1,0 +1,76 @@
+-- `mend::fit::window_fit` meets its contract: the solver for the window's entries answers for the window. Assumes nothing.
+use mathlib.Core.Path.{_≡_, sym}
+use Prim.Native.Nat.{ℕ, _*_, _≤_}
+use native.Mathlib.Nat.{mul-le-mul}
+use native.Mathlib.Omega.{arith}
+use borrow.Author.Needs.{needs}
+use mathlib.Core.List.{List}
+use Rattle.gf2.specs.Solver.{solved, solverOf}
+use Rattle.gf2.specs.declared.Solver.{Solver}
+use Rattle.gf2.specs.declared.Solution.{Solution}
+use Rattle.plan.specs.Bytes.{codeWith}
+use Rattle.mend.proofs.Window.{fit-pattern, fit-nothing}
+use lib.Seq.{length-take-le}
+use Rattle.mend.proofs.fit.window_fit.Statement.{statement}
+use Rattle.mend.proofs.fit.window_fit.Tie as tie
+
+-- what the solver answers, from the steps that lead to it
+answer : (r : Solution) (s : Solver) (vs ws : List ℕ) (v : ℕ) (t : Solution) → r ≡ solved (s .basis) (s .combos) v → s ≡ solverOf ws → ws ≡ vs → r ≡ t
+    → solved (solverOf vs .basis) (solverOf vs .combos) v ≡ t
+answer r s vs ws v t a b e q = rw (← e, ← b, ← a) q
+
+few : (c : tie.Start) → c .args .h .b1 * c .args .h .b2 ≤ 16
+few c = let F = c .pre .0 .formed in mul-le-mul (F .b1-most) (F .b2-most)
+
+gather-requires : tie.Need-gather-requires
+gather-requires c κs = search needs
+
+mul-size : tie.Need-mul-size
+mul-size c = let a = c .before .before .before in omega (arith, few a)
+
+array-share-prefix-words : tie.Need-array-share-prefix-words
+array-share-prefix-words c = let a = c .before .before .before in omega (arith, few a, c .before .gather .ensures .size)
+
+slice-aggregate-solver-of : tie.Need-slice-aggregate-solver-of
+slice-aggregate-solver-of c = let a = c .before .before .before .before in sym (length-take-le _ _ (omega (arith, few a, c .before .before .gather .ensures .size)))
+
+solver-of-requires : tie.Need-solver-of-requires
+solver-of-requires c κs = search needs
+
+solve-requires : tie.Need-solve-requires
+solve-requires c κs = search needs
+
+enum-known-x : tie.Need-enum-known-x
+enum-known-x c = search needs
+
+enum-told : tie.Need-enum-told
+enum-told c = search needs
+
+returns : tie.Need-returns
+returns c =
+    let w = c .before .before .before .before .before .before .before .before in
+    let a = w .before .before .before .before .before in
+    fit-pattern (codeWith (a .args .plan .now) (a .args .h)) (a .pre .0 .formed) (a .args .i) (a .pre .1) (a .pre .0 .conditions) (a .args .v) (omega arith) _
+    (answer _ _ _ _ _ _ (c .before .before .before .solve .ensures) (w .solver-of .ensures) (w .before .before .before .gather .ensures .entries) (c .before .x .given .1))
+
+returns-2 : tie.Need-returns-2
+returns-2 c =
+    let w = c .before .before .before .before .before .before .before in
+    let a = w .before .before .before .before .before in
+    fit-nothing (codeWith (a .args .plan .now) (a .args .h)) (a .pre .0 .formed) (a .args .i) (a .pre .1) (a .pre .0 .conditions) (a .args .v) (omega arith)
+    (answer _ _ _ _ _ _ (c .before .before .solve .ensures) (w .solver-of .ensures) (w .before .before .before .gather .ensures .entries) (c .enum-told .given .1))
+
+pub window-fit-spec : {M : Type 1} → statement M
+window-fit-spec =
+    tie.close
+    (tie.spec
+    gather-requires
+    mul-size
+    array-share-prefix-words
+    slice-aggregate-solver-of
+    solver-of-requires
+    solve-requires
+    enum-known-x
+    enum-told
+    returns
+    returns-2)

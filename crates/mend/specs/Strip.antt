@@ -1,0 +1,60 @@
+-- A pattern laid on a strip of b2 consecutive columns.
+--
+--   BurstSize b1 b2     sizes of a burst: from 1 to 4
+--   wordAt words k    word k of an unpacked table
+--   laidCell, laidRow, laidLine, laidSum   the H entry of a cell of pattern x where the cell is in it, the H sum of a row, and of all,
+--                     of the window at row i on the strip at column a, by the table entry
+--   fitsOn            the H sum on a strip is the one that is asked for
+--   laidDigit b2 a x  the digits of the pattern by columns: digit r × b2 + d is that of row r and the remainder of column a + d
+--   boxPattern        the number with these digits
+--   OnStrips          the burst on the first strip on which the pattern has the H sum, or there is none
+use Prim.Native.Nat.{ℕ, _+_, _*_, _/_, _%_, _≤_}
+use mathlib.Core.Path.{_≡_}
+use mathlib.Core.Bool.{Bool}
+use mathlib.Core.List.{List}
+use lib.Dec.{eqb}
+use lib.ListN.{getD}
+use Rattle.gf2.specs.Xor.{pick}
+use Rattle.gf2.specs.Sum.{xorSum}
+use Rattle.finite.specs.Search.{bit, numberOf}
+use Rattle.plan.specs.declared.header.Header.{Header}
+use Rattle.mend.specs.declared.found.Found.{Found}
+use Rattle.mend.specs.declared.found.Found.the-variants.{Burst, Nothing}
+
+pub record BurstSize (b1 b2 : ℕ) : Type 0 where
+  pub b1-pos : 1 ≤ b1
+  pub b1-most : b1 ≤ 4
+  pub b2-pos : 1 ≤ b2
+  pub b2-most : b2 ≤ 4
+
+abbrev pub wordAt : List ℕ → ℕ → ℕ
+wordAt words k = getD words k 0
+
+-- of column a + d. u is the row's remainder modulo b1, and its digits begin at first
+unfoldable pub laidCell : ℕ → ℕ → (ℕ → ℕ) → ℕ → ℕ → ℕ → ℕ → ℕ → ℕ
+laidCell b1 b2 entry u first a x d = pick (bit x (first + (a + d) % b2)) (entry ((a + d) * b1 + u))
+
+unfoldable pub laidRow : ℕ → ℕ → (ℕ → ℕ) → ℕ → ℕ → ℕ → ℕ → ℕ
+laidRow b1 b2 entry u first a x = xorSum b2 (laidCell b1 b2 entry u first a x)
+
+-- of row i + r
+unfoldable pub laidLine : ℕ → ℕ → (ℕ → ℕ) → ℕ → ℕ → ℕ → ℕ → ℕ
+laidLine b1 b2 entry i a x r = laidRow b1 b2 entry ((i + r) % b1) (r * b2) a x
+
+unfoldable pub laidSum : ℕ → ℕ → (ℕ → ℕ) → ℕ → ℕ → ℕ → ℕ
+laidSum b1 b2 entry i a x = xorSum b1 (laidLine b1 b2 entry i a x)
+
+-- the pattern has the H sum s on the strip at column a
+unfoldable pub fitsOn : ℕ → ℕ → (ℕ → ℕ) → ℕ → ℕ → ℕ → ℕ → Bool
+fitsOn b1 b2 entry i x s a = eqb (laidSum b1 b2 entry i a x) s
+
+unfoldable pub laidDigit : ℕ → ℕ → ℕ → ℕ → Bool
+laidDigit b2 a x k = bit x (k / b2 * b2 + (a + k % b2) % b2)
+
+unfoldable pub boxPattern : ℕ → ℕ → ℕ → ℕ → ℕ
+boxPattern b1 b2 a x = numberOf (b1 * b2) (laidDigit b2 a x)
+
+abbrev pub OnStrips : Header → (ℕ → ℕ) → ℕ → ℕ → ℕ → Found → Type 0
+OnStrips h entry i x s (Burst top left y) =
+    (top ≡ i) × (left + h .b2 ≤ h .n2) × (laidSum (h .b1) (h .b2) entry i left x ≡ s) × (y ≡ boxPattern (h .b1) (h .b2) left x)
+OnStrips h entry i x s Nothing = (a : ℕ) → a + h .b2 ≤ h .n2 → laidSum (h .b1) (h .b2) entry i a x ≡ s → ⊥

@@ -1,0 +1,5 @@
+-- The laws of the definitions of specs/.
+pub mod Size
+pub mod Order
+pub mod Stand
+pub mod Progress

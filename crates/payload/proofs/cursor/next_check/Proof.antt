@@ -1,0 +1,48 @@
+-- `payload::cursor::next_check` meets its contract. Assumes nothing.
+use mathlib.Core.Path.{sym}
+use native.Mathlib.Omega.{arith}
+use Rattle.boxcode.specs.Code.{cellNumber}
+use Rattle.boxcode.specs.Check.{checkNumber}
+use Rattle.payload.proofs.Size.{cells-most, pair-most}
+use Rattle.payload.proofs.Stand.{next-here, next-past}
+use borrow.Author.Needs.{needs}
+use Rattle.payload.proofs.cursor.next_check.Statement.{statement}
+use Rattle.payload.proofs.cursor.next_check.Tie as tie
+
+add-if1 : tie.Need-add-if1
+add-if1 c = search needs
+
+mul-result : tie.Need-mul-result
+mul-result c = let m = cells-most _ (c .before .before .before .before .pre .0 .small) in omega arith
+
+returns : tie.Need-returns
+returns c = sym (next-past _ _ (omega arith))
+
+check-row-requires : tie.Need-check-row-requires
+check-row-requires c κs = search needs
+
+mul-result-2 : tie.Need-mul-result-2
+mul-result-2 c = let m = pair-most _ (c .before .before .before .before .before .pre .0 .small) _ (c .before .check-row .ensures .below) in omega arith
+
+check-column-requires : tie.Need-check-column-requires
+check-column-requires c κs = search needs
+
+add-result : tie.Need-add-result
+add-result c = let m = pair-most _ (c .before .before .before .before .before .before .pre .0 .small) _ (c .before .before .check-row .ensures .below) in omega arith
+
+returns-2 : tie.Need-returns-2
+unfolding checkNumber cellNumber
+returns-2 c = rw (c .before .before .check-row .ensures .value, c .check-column .ensures .value) (sym (next-here _ _ (omega arith)))
+
+pub next-check-spec : {M : Type 1} → statement M
+next-check-spec =
+    tie.close
+    (tie.spec
+    add-if1
+    mul-result
+    returns
+    check-row-requires
+    mul-result-2
+    check-column-requires
+    add-result
+    returns-2)

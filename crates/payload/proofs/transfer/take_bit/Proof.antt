@@ -1,0 +1,23 @@
+-- `payload::transfer::take_bit` meets its contract. Assumes nothing.
+use borrow.Author.Tests.{eq-eqb, ne-eqb}
+use borrow.Author.Needs.{needs}
+use Rattle.payload.proofs.transfer.take_bit.Statement.{statement}
+use Rattle.payload.proofs.transfer.take_bit.Tie as tie
+
+returns : tie.Need-returns
+returns c = rw (eq-eqb _ _ (c .if1 .taken))
+
+cell-requires : tie.Need-cell-requires
+cell-requires c κs = search needs
+
+turn-if-requires : tie.Need-turn-if-requires
+turn-if-requires c κs = (c .before .before .before .before .before .before .pre .0 .0, c .before .before .before .before .before .before .pre .1 (ne-eqb _ _ (c .before .before .if1 .left)))
+
+same-length : tie.Need-same-length
+same-length c = search needs
+
+returns-2 : tie.Need-returns-2
+returns-2 c = rw (ne-eqb _ _ (c .before .before .before .before .before .if1 .left), ← c .before .before .before .cell .ensures) (c .before .before .turn-if .ensures)
+
+pub take-bit-spec : {M : Type 1} → statement M
+take-bit-spec = tie.close (tie.spec returns cell-requires turn-if-requires same-length returns-2)

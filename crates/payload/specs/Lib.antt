@@ -1,0 +1,3 @@
+-- The walk over the cells, and what is done at each.
+pub mod Walk
+pub mod Transfer

@@ -1,0 +1,55 @@
+-- The two sums of a sheet, gathered row by row and byte by byte.
+--
+--   rowSum n2 w s i      the exclusive-or of the weights of the dark cells of row i
+--   byteSum f x j n      the same of the n cells from column j on that stand in the byte x, with weight f of a column
+--   rowsAt, columnsAt    the weight of a column by the words of a row of V, and by the unpacked table H
+--   RowWords f n words   words k is f k, for the n entries of V that a row has
+--   Words                what gathering a row asks of its tables
+--   TwoSums v h r        r has the sums v and h, which have at most 32 bits
+--   FirstRows c n s r    r has the two sums of the first n rows of the sheet s
+use Prim.Native.Nat.{ℕ, _+_, _*_, _%_, _≤_, _<_}
+use mathlib.Core.Path.{_≡_}
+use mathlib.Core.List.{List}
+use lib.ListN.{length, getD}
+use Rattle.finite.specs.Search.{bit}
+use Rattle.gf2.specs.Sum.{chosenSum}
+use Rattle.boxcode.specs.Code.{Code, rowWeight, columnWeight}
+use Rattle.boxcode.specs.Syndrome.{Cells, weightSum}
+use Rattle.syndrome.specs.declared.sums.Sums.{Sums}
+
+unfoldable pub rowSum : ℕ → (ℕ → ℕ → ℕ) → Cells → ℕ → ℕ
+rowSum n2 w s i = chosenSum n2 (s i) (w i)
+
+unfoldable pub byteSum : (ℕ → ℕ) → ℕ → ℕ → ℕ → ℕ
+byteSum f x j n = chosenSum n (bit x) (λ t. f (j + t))
+
+unfoldable pub rowsAt : ℕ → List ℕ → ℕ → ℕ
+rowsAt b2 rows j = getD rows (j % b2) 0
+
+unfoldable pub columnsAt : ℕ → ℕ → List ℕ → ℕ → ℕ
+columnsAt b1 q columns j = getD columns (j * b1 + q) 0
+
+pub record RowWords (f : ℕ → ℕ) (n : ℕ) (words : List ℕ) : Type 0 where
+  pub size : length words ≡ 4
+  pub entry : (k : ℕ) → k < n → getD words k 0 ≡ f k
+  pub below : (k : ℕ) → k < n → getD words k 0 < 4294967296
+
+-- n2 columns of weights: V entries by j modulo b2, H entries at j × b1 + q
+pub record Words (n2 b1 b2 q : ℕ) (rows columns : List ℕ) : Type 0 where
+  pub n2-most : n2 ≤ 698
+  pub b1-most : b1 ≤ 4
+  pub b2-pos : 1 ≤ b2
+  pub b2-most : b2 ≤ 4
+  pub q-below : q < b1
+  pub rows-below : (k : ℕ) → k < b2 → getD rows k 0 < 4294967296
+  pub columns-long : n2 * b1 ≤ length columns
+  pub columns-below : (k : ℕ) → k < n2 * b1 → getD columns k 0 < 4294967296
+
+pub record TwoSums (v h : ℕ) (r : Sums) : Type 0 where
+  pub row : r .row ≡ v
+  pub column : r .column ≡ h
+  pub row-below : r .row < 4294967296
+  pub column-below : r .column < 4294967296
+
+abbrev pub FirstRows : Code → ℕ → Cells → Sums → Type 0
+FirstRows c n s r = TwoSums (weightSum n (c .n2) (rowWeight c) s) (weightSum n (c .n2) (columnWeight c) s) r

@@ -1,0 +1,2 @@
+-- The sums of a part of a sheet.
+pub mod Gather

@@ -1,0 +1,132 @@
+// Gathering the two sums: a byte, a row, the sheet.
+ghost use mathlib.Core.Path.{_≡_};
+ghost use Prim.Native.Nat.{ℕ, _+_, _-_, _*_, _%_, _≤_, _<_, min};
+ghost use lib.ListN.{length};
+ghost use Rattle.layout.specs.Cells.{sheetBytes, cellOf};
+ghost use Rattle.boxcode.specs.Code.{rowWeight, columnWeight};
+ghost use Rattle.boxcode.specs.Syndrome.{rowSyndrome, columnSyndrome};
+ghost use Rattle.plan.specs.Header.{Framed, columnsStart};
+ghost use Rattle.plan.specs.Bytes.{rowEntryAt, codeWith};
+ghost use Rattle.plan.specs.Table.{Unpacked};
+ghost use Rattle.syndrome.specs.Gather.{rowSum, byteSum, rowsAt, columnsAt, RowWords, Words, TwoSums};
+use crate::sums::Sums;
+use layout::cells::row_bytes;
+use plan::entry::row_entry;
+use plan::header::Header;
+
+// The place after k among b, with no division: the first again after the last.
+fn next(k: usize, b: usize) -> usize
+    requires { ⌜ (k < b) × (b ≤ 4) ⌝ }
+    ensures { λ r. ⌜ r ≡ (k + 1) % b ⌝ }
+{
+    if k + 1 == b {
+        return 0;
+    }
+    k + 1
+}
+
+// How many of the next 8 cells there are.
+fn eight(left: usize) -> usize
+    ensures { λ r. ⌜ r ≡ min 8 left ⌝ }
+{
+    if left < 8 {
+        return left;
+    }
+    8
+}
+
+// The V entries of row i, of which there are b2.
+fn row_words(plan: &[u8], h: Header, i: usize) -> [u64; 4]
+    requires { ⌜ Framed (now plan) h ⌝ }
+    requires { ⌜ i < h .n1 ⌝ }
+    ensures { λ r. ⌜ RowWords (λ (k : ℕ). rowEntryAt (now (plan .entry)) (i * h .b2 + k)) (h .b2) r ⌝ }
+{
+    let count = h.b2;
+    let mut words = [0u64; 4];
+    let mut k = 0;
+    while k < count {
+        words[k] = row_entry(plan, h, i * count + k);
+        k += 1;
+    }
+    words
+}
+
+// The sums of the cells from column j on that stand in the byte x.
+fn byte_sums(
+    x: u8,
+    j: usize,
+    n2: usize,
+    rows: [u64; 4],
+    b2: usize,
+    columns: &[u64],
+    b1: usize,
+    q: usize,
+) -> Sums
+    requires { ⌜ Words n2 b1 b2 q rows (now columns) ⌝ }
+    requires { ⌜ j < n2 ⌝ }
+    ensures { λ r. ⌜ TwoSums (byteSum (rowsAt b2 rows) x j (min 8 (n2 - j))) (byteSum (columnsAt b1 q (now (columns .entry))) x j (min 8 (n2 - j))) r ⌝ }
+{
+    if x == 0 {
+        return Sums { row: 0, column: 0 };
+    }
+    let count = eight(n2 - j);
+    let mut rest = x as u64;
+    let mut place = j % b2;
+    let mut k = j * b1 + q;
+    let mut row = 0u64;
+    let mut column = 0u64;
+    let mut t = 0;
+    while t < count {
+        row = row ^ (rows[place] * (rest % 2));
+        column = column ^ (columns[k] * (rest % 2));
+        rest = rest / 2;
+        place = next(place, b2);
+        k += b1;
+        t += 1;
+    }
+    Sums { row, column }
+}
+
+// The sums of row i.
+pub fn row_sums(sheet: &[u8], plan: &[u8], h: Header, columns: &[u64], i: usize) -> Sums
+    requires { ⌜ Framed (now plan) h ⌝ }
+    requires { ⌜ Unpacked (now plan) (columnsStart h) (h .n2 * h .b1) (now columns) ⌝ }
+    requires { ⌜ length (now sheet) ≡ sheetBytes (h .n1) (h .n2) ⌝ }
+    requires { ⌜ i < h .n1 ⌝ }
+    ensures { λ r. ⌜ TwoSums (rowSum (h .n2) (rowWeight (codeWith (now (plan .entry)) h)) (cellOf (h .n2) (now (sheet .entry))) i) (rowSum (h .n2) (columnWeight (codeWith (now (plan .entry)) h)) (cellOf (h .n2) (now (sheet .entry))) i) r ⌝ }
+{
+    let rows = row_words(plan, h, i);
+    let size = row_bytes(h.n2);
+    let from = i * size;
+    let q = i % h.b1;
+    let mut row = 0u64;
+    let mut column = 0u64;
+    let mut b = 0;
+    while b < size {
+        let s = byte_sums(sheet[from + b], 8 * b, h.n2, rows, h.b2, columns, h.b1, q);
+        row = row ^ s.row;
+        column = column ^ s.column;
+        b += 1;
+    }
+    Sums { row, column }
+}
+
+// The two sums of a sheet, row after row.
+pub fn sums(sheet: &[u8], plan: &[u8], h: Header, columns: &[u64]) -> Sums
+    requires { ⌜ Framed (now plan) h ⌝ }
+    requires { ⌜ Unpacked (now plan) (columnsStart h) (h .n2 * h .b1) (now columns) ⌝ }
+    requires { ⌜ length (now sheet) ≡ sheetBytes (h .n1) (h .n2) ⌝ }
+    ensures { λ r. ⌜ TwoSums (rowSyndrome (codeWith (now (plan .entry)) h) (cellOf (h .n2) (now (sheet .entry)))) (columnSyndrome (codeWith (now (plan .entry)) h) (cellOf (h .n2) (now (sheet .entry)))) r ⌝ }
+{
+    let mut row = 0u64;
+    let mut column = 0u64;
+    let n1 = h.n1;
+    let mut i = 0;
+    while i < n1 {
+        let s = row_sums(sheet, plan, h, columns, i);
+        row = row ^ s.row;
+        column = column ^ s.column;
+        i += 1;
+    }
+    Sums { row, column }
+}
