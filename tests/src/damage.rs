@@ -8,9 +8,8 @@ pub fn damaged(plan: &Plan, rng: &mut Rng) -> Vec<u8> {
     const TABLES: u8 = 1;
     const CHECKS: u8 = 2;
     const BYTES: u8 = 4;
-    let singles = [TABLES, TABLES, TABLES, CHECKS, CHECKS, CHECKS, BYTES, BYTES, BYTES];
-    let several = [TABLES | CHECKS, TABLES | BYTES, CHECKS | BYTES];
-    let kinds = if rng.one_in(5) { rng.pick(&several) } else { rng.pick(&singles) };
+    let one = rng.pick(&[TABLES, CHECKS, BYTES]);
+    let kinds = if rng.one_in(5) { one | rng.pick(&[TABLES, CHECKS, BYTES]) } else { one };
     let mut plan = plan.clone();
     if kinds & TABLES != 0 {
         damage_tables(&mut plan, rng);

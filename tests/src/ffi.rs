@@ -1,5 +1,4 @@
-//! The calls of libsheet.a on guarded buffers: each buffer lies amid random bytes at a random
-//! alignment, and no byte may change but those that the call may write.
+//! The calls of libsheet.a: bare, and on guarded buffers.
 
 #[cfg(feature = "calls")]
 use crate::answer::Answer;
@@ -10,84 +9,69 @@ extern "C" {
 }
 
 #[cfg(feature = "calls")]
+#[rustfmt::skip]
 extern "C" {
     fn sheet_write(
-        plan: *const u8,
-        plan_len: usize,
-        data: *const u8,
-        data_len: usize,
-        sheet: *mut u8,
-        sheet_len: usize,
+        plan: *const u8, plan_len: usize,
+        data: *const u8, data_len: usize,
+        sheet: *mut u8, sheet_len: usize,
     ) -> u64;
     fn sheet_read(
-        plan: *const u8,
-        plan_len: usize,
-        sheet: *mut u8,
-        sheet_len: usize,
-        data: *mut u8,
-        data_len: usize,
+        plan: *const u8, plan_len: usize,
+        sheet: *mut u8, sheet_len: usize,
+        data: *mut u8, data_len: usize,
     ) -> u64;
 }
 
-/// A buffer in the middle of a larger one, and what the larger one held before the call.
-struct Guarded {
-    name: &'static str,
-    all: Vec<u8>,
-    saved: Vec<u8>,
-    start: usize,
-    len: usize,
+/// The bare call.
+pub fn plan_test(plan: &[u8]) -> u64 {
+    // SAFETY: a slice is readable for its length.
+    unsafe { sheet_plan_test(plan.as_ptr(), plan.len()) }
 }
 
-impl Guarded {
-    fn new(name: &'static str, content: &[u8], rng: &mut Rng) -> Guarded {
-        let (start, after) = (rng.within(16, 79), rng.within(16, 79));
-        let mut all = rng.bytes(start);
-        all.extend(content);
-        all.extend(rng.bytes(after));
-        Guarded { name, saved: all.clone(), all, start, len: content.len() }
-    }
-
-    fn pointer(&self) -> *const u8 {
-        self.all[self.start..].as_ptr()
-    }
-
-    #[cfg(feature = "calls")]
-    fn pointer_mut(&mut self) -> *mut u8 {
-        self.all[self.start..].as_mut_ptr()
-    }
-
-    /// The call may not have changed a byte, here or around.
-    fn assert_unchanged(&self) {
-        assert!(self.all == self.saved, "the {} or a byte around it was changed", self.name);
-    }
-
-    /// What the call left in a buffer that it may write, unless it refused.
-    #[cfg(feature = "calls")]
-    fn take_back(&self, answer: u64, into: &mut [u8]) {
-        let end = self.start + self.len;
-        let around = |bytes: &[u8]| (bytes[..self.start].to_vec(), bytes[end..].to_vec());
-        assert_eq!(around(&self.all), around(&self.saved), "around the {}", self.name);
-        if Answer::unpack(answer).is_refusal() {
-            self.assert_unchanged();
-        }
-        into.copy_from_slice(&self.all[self.start..end]);
+/// The bare call.
+#[cfg(feature = "calls")]
+#[rustfmt::skip]
+pub fn write(plan: &[u8], data: &[u8], sheet: &mut [u8]) -> u64 {
+    // SAFETY: slices are readable, and the mutable one writable and apart from the others.
+    unsafe {
+        sheet_write(
+            plan.as_ptr(), plan.len(),
+            data.as_ptr(), data.len(),
+            sheet.as_mut_ptr(), sheet.len(),
+        )
     }
 }
 
-/// The library, with the generator of guard bytes.
+/// The bare call.
+#[cfg(feature = "calls")]
+#[rustfmt::skip]
+pub fn read(plan: &[u8], sheet: &mut [u8], data: &mut [u8]) -> u64 {
+    // SAFETY: as for `write`.
+    unsafe {
+        sheet_read(
+            plan.as_ptr(), plan.len(),
+            sheet.as_mut_ptr(), sheet.len(),
+            data.as_mut_ptr(), data.len(),
+        )
+    }
+}
+
+/// The calls on guarded buffers: each buffer lies amid random bytes at a random alignment, and
+/// after the call no byte may have changed but those that the call may write.
 pub struct Library {
     rng: Rng,
 }
 
 impl Library {
+    /// The seed is that of the guard bytes.
     pub fn new(seed: u64) -> Library {
         Library { rng: Rng::new(seed) }
     }
 
     pub fn plan_test(&mut self, plan: &[u8]) -> u64 {
         let plan = Guarded::new("plan", plan, &mut self.rng);
-        // SAFETY: the pointer and length are those of a buffer that is alive for the call.
-        let answer = unsafe { sheet_plan_test(plan.pointer(), plan.len) };
+        let answer = plan_test(plan.content());
         plan.assert_unchanged();
         answer
     }
@@ -97,20 +81,10 @@ impl Library {
         let plan = Guarded::new("plan", plan, &mut self.rng);
         let data = Guarded::new("data", data, &mut self.rng);
         let mut target = Guarded::new("sheet", sheet, &mut self.rng);
-        // SAFETY: as above; the three buffers are apart, and the sheet is ours to write.
-        let answer = unsafe {
-            sheet_write(
-                plan.pointer(),
-                plan.len,
-                data.pointer(),
-                data.len,
-                target.pointer_mut(),
-                target.len,
-            )
-        };
+        let answer = write(plan.content(), data.content(), target.content_mut());
         plan.assert_unchanged();
         data.assert_unchanged();
-        target.take_back(answer, sheet);
+        target.hand_back(answer, sheet);
         answer
     }
 
@@ -119,20 +93,55 @@ impl Library {
         let plan = Guarded::new("plan", plan, &mut self.rng);
         let mut scan = Guarded::new("sheet", sheet, &mut self.rng);
         let mut target = Guarded::new("data", data, &mut self.rng);
-        // SAFETY: as above; sheet and data are ours to write.
-        let answer = unsafe {
-            sheet_read(
-                plan.pointer(),
-                plan.len,
-                scan.pointer_mut(),
-                scan.len,
-                target.pointer_mut(),
-                target.len,
-            )
-        };
+        let answer = read(plan.content(), scan.content_mut(), target.content_mut());
         plan.assert_unchanged();
-        scan.take_back(answer, sheet);
-        target.take_back(answer, data);
+        scan.hand_back(answer, sheet);
+        target.hand_back(answer, data);
         answer
+    }
+}
+
+/// A buffer in the middle of a larger one, and what the larger one held before the call.
+struct Guarded {
+    name: &'static str,
+    all: Vec<u8>,
+    before: Vec<u8>,
+    start: usize,
+    end: usize,
+}
+
+impl Guarded {
+    fn new(name: &'static str, content: &[u8], rng: &mut Rng) -> Guarded {
+        let (start, after) = (rng.within(16, 79), rng.within(16, 79));
+        let mut all = rng.bytes(start);
+        all.extend(content);
+        all.extend(rng.bytes(after));
+        Guarded { name, before: all.clone(), all, start, end: start + content.len() }
+    }
+
+    fn content(&self) -> &[u8] {
+        &self.all[self.start..self.end]
+    }
+
+    fn assert_unchanged(&self) {
+        assert!(self.all == self.before, "the {} or a byte around it was changed", self.name);
+    }
+}
+
+#[cfg(feature = "calls")]
+impl Guarded {
+    fn content_mut(&mut self) -> &mut [u8] {
+        &mut self.all[self.start..self.end]
+    }
+
+    /// Copy back what the call left in a buffer that it may write unless it refuses.
+    fn hand_back(&self, answer: u64, into: &mut [u8]) {
+        if Answer::unpack(answer).is_refusal() {
+            self.assert_unchanged();
+        }
+        let kept = self.all[..self.start] == self.before[..self.start]
+            && self.all[self.end..] == self.before[self.end..];
+        assert!(kept, "a byte around the {} was changed", self.name);
+        into.copy_from_slice(self.content());
     }
 }

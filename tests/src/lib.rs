@@ -14,5 +14,6 @@ pub mod make;
 pub mod model;
 pub mod plan;
 pub mod rng;
+pub mod scans;
 pub mod tally;
 pub mod yardstick;

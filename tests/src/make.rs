@@ -11,19 +11,26 @@ pub struct Polynomial {
     pub low: u32,
 }
 
+/// Bursts of one cell ask only that entries differ, and the powers of z modulo this polynomial do so
+/// up to the 1023rd.
+const SINGLE: Polynomial = Polynomial { degree: 10, low: 0x9 };
+
 /// Tables of powers for 3 × 3 bursts on 512 rows and 698 columns. Of all polynomials with constant
 /// term 1, none of smaller degree serves, and none of this degree with a smaller `low` (bin
 /// find_tables tries them in this order).
-pub const V_3X3: Polynomial = Polynomial { degree: 22, low: 0x3_9f0d };
-pub const H_3X3: Polynomial = Polynomial { degree: 14, low: 0x8f7 };
+const V_3X3: Polynomial = Polynomial { degree: 22, low: 0x3_9f0d };
+const H_3X3: Polynomial = Polynomial { degree: 14, low: 0x8f7 };
 
 /// The same for 4 × 4 bursts on 698 columns.
-pub const H_4X4: Polynomial = Polynomial { degree: 21, low: 0x3a09 };
+const H_4X4: Polynomial = Polynomial { degree: 21, low: 0x3a09 };
 
-/// For 4 × 4 bursts any two windows that do not overlap fill all of rv = 32, and no table of powers
-/// of z goes far. This ratio, with `field_rows`, serves for 219 rows, more than any smaller number
-/// does (bin find_tables).
-pub const RATIO_4X4: u32 = 0x3_2b36;
+/// A polynomial of degree 32 that serves for 3 × 3 bursts in both tables: that of CRC-32.
+const WIDE: Polynomial = Polynomial { degree: 32, low: 0x04c1_1db7 };
+
+/// For 4 × 4 bursts two windows that do not overlap fill all of rv = 32, and powers of z serve for
+/// a few dozen rows at best. With `field_rows` this ratio serves for 219 rows, more than any
+/// smaller number does (bin find_tables).
+const RATIO_4X4: u32 = 0x3_2b36;
 pub const ROWS_4X4: usize = 219;
 
 /// z^k modulo the polynomial, for k from 0 (request a of 02).
@@ -82,7 +89,7 @@ pub enum CellOrder {
 impl Plan {
     /// Take check cells in the given order, each if its joint entry is no exclusive-or of those
     /// taken, until there are rv + rh; then list them in rising order. None if there are too few.
-    pub fn with_checks(mut self, order: CellOrder, rng: &mut Rng) -> Option<Plan> {
+    fn with_checks(mut self, order: CellOrder, rng: &mut Rng) -> Option<Plan> {
         let (n1, n2) = (self.n1 as u16, self.n2 as u16);
         let mut cells: Vec<_> = (0..n1).flat_map(|i| (0..n2).map(move |j| (i, j))).collect();
         if let CellOrder::Scattered = order {
@@ -103,25 +110,50 @@ impl Plan {
     }
 }
 
-/// The accepted plan with 3 × 3 bursts on n1 rows, at most 512, and n2 columns, at most 698, from
-/// the two tables of powers.
-pub fn powers_3x3(n1: usize, n2: usize, order: CellOrder, rng: &mut Rng) -> Plan {
-    let (v, h) = (powers(3 * n1, V_3X3), powers(3 * n2, H_3X3));
-    let (rv, rh) = (V_3X3.degree, H_3X3.degree);
-    let plan = Plan { n1, n2, b1: 3, b2: 3, rv, rh, v, h, checks: Vec::new() };
+/// A table and the width of its entries.
+type Table = (usize, Vec<u32>);
+
+/// The plan with bursts of b × b and these tables, b entries a row or column.
+fn square(b: usize, (rv, v): Table, (rh, h): Table, order: CellOrder, rng: &mut Rng) -> Plan {
+    let (n1, n2) = (v.len() / b, h.len() / b);
+    let plan = Plan { n1, n2, b1: b, b2: b, rv, rh, v, h, checks: Vec::new() };
     plan.with_checks(order, rng).expect("there are enough cells")
+}
+
+/// The accepted plan with bursts of one cell at full size.
+pub fn powers_1x1(order: CellOrder, rng: &mut Rng) -> Plan {
+    let table = |count| (SINGLE.degree, powers(count, SINGLE));
+    square(1, table(512), table(698), order, rng)
+}
+
+/// The accepted plan with 3 × 3 bursts on n1 rows, at most 512, and n2 columns, at most 698, with
+/// the fewest check cells that tables of powers allow at full size.
+pub fn powers_3x3(n1: usize, n2: usize, order: CellOrder, rng: &mut Rng) -> Plan {
+    let v = (V_3X3.degree, powers(3 * n1, V_3X3));
+    let h = (H_3X3.degree, powers(3 * n2, H_3X3));
+    square(3, v, h, order, rng)
+}
+
+/// The accepted plan with 3 × 3 bursts at full size and the widest entries. One altered entry
+/// makes few pairs dependent here.
+pub fn wide_3x3(order: CellOrder, rng: &mut Rng) -> Plan {
+    square(3, (32, powers(3 * 512, WIDE)), (32, powers(3 * 698, WIDE)), order, rng)
 }
 
 /// The accepted plan with 4 × 4 bursts that is the largest found.
 pub fn largest_4x4(order: CellOrder, rng: &mut Rng) -> Plan {
-    let (n1, n2) = (ROWS_4X4, 698);
-    let (v, h) = (field_rows(n1, RATIO_4X4), powers(4 * n2, H_4X4));
-    let plan = Plan { n1, n2, b1: 4, b2: 4, rv: 32, rh: H_4X4.degree, v, h, checks: Vec::new() };
-    plan.with_checks(order, rng).expect("there are enough cells")
+    let v = (32, field_rows(ROWS_4X4, RATIO_4X4));
+    let h = (H_4X4.degree, powers(4 * 698, H_4X4));
+    square(4, v, h, order, rng)
+}
+
+/// Every size of burst that check 2 lets pass.
+pub fn burst_sizes() -> impl Iterator<Item = (usize, usize)> {
+    (1..=4).flat_map(|b1| (1..=4).map(move |b2| (b1, b2)))
 }
 
 /// A random accepted plan for bursts of b1 × b2, with at most `more` rows and columns beyond one
-/// burst. One in four has exactly b1 rows, one in four exactly b2 columns, if such are accepted.
+/// burst. Some have exactly b1 rows or b2 columns, and some of these have no data bits at all.
 pub fn accepted(rng: &mut Rng, b1: usize, b2: usize, more: usize) -> Plan {
     loop {
         let Some(shape) = random_shape(rng, b1, b2, more) else { continue };
@@ -135,13 +167,14 @@ pub fn accepted(rng: &mut Rng, b1: usize, b2: usize, more: usize) -> Plan {
 
 /// Sizes under which a plan can be accepted, tables and check list left empty.
 fn random_shape(rng: &mut Rng, b1: usize, b2: usize, more: usize) -> Option<Plan> {
-    let mut size = |b: usize| if rng.one_in(4) { b } else { rng.within(b, b + more) };
+    let mut size = |b: usize| if rng.one_in(6) { b } else { rng.within(b, b + more) };
     let (n1, n2) = (size(b1), size(b2));
     // As many entries as two windows, and as many members as two strips, can have.
     let least_rv = (2 * b1).min(n1) * b2;
     let least_rh = (b2.min(n2 - b2) * b1).max(1);
-    // The joint entries of all cells have at most this rank: the entries of both tables, less one
-    // for each pair of remainders, whose cells see no other entries than each other's.
+    // The most that check cells can span. Cells with the same two remainders, i modulo b1 and
+    // j modulo b2, share their entries with no others, and span at most one dimension less than
+    // they have entries in the two tables: b1 × b2 times in all.
     let rank = n1 * b2 + n2 * b1 - b1 * b2;
     let most_rv = 32.min(n1 * b2).min(rank.checked_sub(least_rh)?);
     if most_rv < least_rv {
@@ -149,14 +182,18 @@ fn random_shape(rng: &mut Rng, b1: usize, b2: usize, more: usize) -> Option<Plan
     }
     let rv = width(rng, least_rv, most_rv);
     let most_rh = 32.min(n2 * b1).min(rank - rv);
-    let no_data = n1 * n2 == rank && rank - rv == most_rh && rng.one_in(2);
+    let no_data = n1 * n2 == rank && rank - rv == most_rh && rng.one_in(3);
     let rh = if no_data { most_rh } else { width(rng, least_rh, most_rh) };
     Some(Plan { n1, n2, b1, b2, rv, rh, v: Vec::new(), h: Vec::new(), checks: Vec::new() })
 }
 
 /// A width from `least` to `most`: mostly near the least, one time in six the most.
 fn width(rng: &mut Rng, least: usize, most: usize) -> usize {
-    if rng.one_in(6) { most } else { rng.within(least, most.min(least + 8)) }
+    if rng.one_in(6) {
+        most
+    } else {
+        rng.within(least, most.min(least + 8))
+    }
 }
 
 /// Each table random, or of powers modulo a random polynomial with constant term 1.

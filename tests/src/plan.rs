@@ -80,7 +80,11 @@ impl Plan {
     /// The plan in these bytes, or the refusal of the first of checks 1 to 5 that fails.
     pub fn parse(bytes: &[u8]) -> Result<Plan, Answer> {
         let refuse_if = |fails: bool, number: u64| {
-            if fails { Err(Answer::refusal(number, 0, 0)) } else { Ok(()) }
+            if fails {
+                Err(Answer::refusal(number, 0, 0))
+            } else {
+                Ok(())
+            }
         };
         refuse_if(bytes.len() < HEADER_LEN, 1)?;
         let field = |place| usize::from(header_field(bytes, place));
@@ -100,7 +104,8 @@ impl Plan {
         refuse_if(!size_good, 3)?;
         refuse_if(![plan.rv, plan.rh].iter().all(|r| (1..=32).contains(r)), 4)?;
         let layout = plan.layout();
-        let told = [field::V_OFFSET, field::H_OFFSET, field::CHECK_OFFSET, field::LENGTH].map(field);
+        let told =
+            [field::V_OFFSET, field::H_OFFSET, field::CHECK_OFFSET, field::LENGTH].map(field);
         refuse_if(told != layout || bytes.len() != layout[3], 5)?;
 
         let [v, h, checks, end] = layout;
@@ -112,7 +117,7 @@ impl Plan {
     }
 
     /// The V entry of cell (i, j).
-    pub fn v_entry(&self, i: usize, j: usize) -> u32 {
+    fn v_entry(&self, i: usize, j: usize) -> u32 {
         self.v[i * self.b2 + j % self.b2]
     }
 

@@ -7,7 +7,7 @@ impl Rng {
         Rng(seed)
     }
 
-    pub fn next(&mut self) -> u64 {
+    fn word(&mut self) -> u64 {
         self.0 = self.0.wrapping_add(0x9e37_79b9_7f4a_7c15);
         let mut z = self.0;
         z = (z ^ (z >> 30)).wrapping_mul(0xbf58_476d_1ce4_e5b9);
@@ -17,7 +17,7 @@ impl Rng {
 
     /// A number below `bound`, which is not 0.
     pub fn below(&mut self, bound: usize) -> usize {
-        (self.next() % bound as u64) as usize
+        (self.word() % bound as u64) as usize
     }
 
     /// A number from `low` to `high`, both included.
@@ -32,7 +32,7 @@ impl Rng {
 
     /// A number of `width` random bits, 1 to 32.
     pub fn bits(&mut self, width: usize) -> u32 {
-        (self.next() >> (64 - width)) as u32
+        (self.word() >> (64 - width)) as u32
     }
 
     pub fn pick<T: Copy>(&mut self, of: &[T]) -> T {

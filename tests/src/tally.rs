@@ -1,5 +1,7 @@
 //! How often each number of an answer was met.
 
+use std::ops::RangeInclusive;
+
 use crate::answer::Answer;
 
 #[derive(Default)]
@@ -10,17 +12,17 @@ impl Tally {
         self.0[Answer::unpack(packed).number as usize] += 1;
     }
 
-    /// Print the counts, and fail if number 0 was met less often than `taken`, or any number from
-    /// 1 to `last` less often than `refused`.
-    pub fn require(&self, what: &str, taken: u64, last: usize, refused: u64) {
+    /// Print the counts, and fail if a number of one of these ranges was met less often than told.
+    pub fn require(&self, what: &str, least: &[(RangeInclusive<usize>, u64)]) {
+        let met = self.0.iter().enumerate().filter(|(_, &count)| count > 0);
+        let met: Vec<String> = met.map(|(number, count)| format!("{number}: {count}")).collect();
         let total: u64 = self.0.iter().sum();
-        println!("{what}: {total} calls; times each number was met:");
-        for (number, count) in self.0[..=last].iter().enumerate() {
-            println!("  {number:2}: {count}");
-        }
-        assert!(self.0[0] >= taken, "number 0 was met fewer than {taken} times");
-        for (number, &count) in self.0.iter().enumerate().take(last + 1).skip(1) {
-            assert!(count >= refused, "number {number} was met fewer than {refused} times");
+        println!("{what}: {total} calls; numbers met: {}", met.join(", "));
+        for (numbers, least) in least {
+            for number in numbers.clone() {
+                let count = self.0[number];
+                assert!(count >= *least, "number {number} was met {count} times, not {least}");
+            }
         }
     }
 }

@@ -5,3 +5,4 @@ pub mod RowPairs
 pub mod Strips
 pub mod JointEntries
 pub mod Acceptance
+pub mod Range

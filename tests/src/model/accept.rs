@@ -91,12 +91,12 @@ fn dependent_strips(plan: &Plan) -> Places {
 /// The members of two strips: for each remainder modulo b2 that stands on different columns in
 /// them, and each r below b1, the exclusive-or of the two H entries for r.
 pub fn strip_members(plan: &Plan, first: usize, second: usize) -> impl Iterator<Item = u64> + '_ {
-    let standing = |strip: usize, remainder: usize| {
+    let standing = move |strip: usize, remainder: usize| {
         let mut columns = strip..strip + plan.b2;
         columns.find(|column| column % plan.b2 == remainder).expect("each remainder stands once")
     };
     let columns = (0..plan.b2).map(move |m| (standing(first, m), standing(second, m)));
-    columns.filter(|(j1, j2)| j1 != j2).flat_map(|(j1, j2)| {
+    columns.filter(|(j1, j2)| j1 != j2).flat_map(move |(j1, j2)| {
         (0..plan.b1).map(move |r| u64::from(plan.h[j1 * plan.b1 + r] ^ plan.h[j2 * plan.b1 + r]))
     })
 }

@@ -23,7 +23,9 @@ pub fn burst_by_trial(plan: &Plan, sheet: &[u8]) -> Option<Vec<Cell>> {
                 }
                 if change[pattern] == target {
                     let inside = |index: &usize| pattern >> index & 1 == 1;
-                    return Some((0..cells.len()).filter(inside).map(|index| cells[index]).collect());
+                    return Some(
+                        (0..cells.len()).filter(inside).map(|index| cells[index]).collect(),
+                    );
                 }
             }
         }

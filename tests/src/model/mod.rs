@@ -9,7 +9,7 @@ mod sheet;
 pub use accept::{accept, accept_by, strip_members, test_plan, window_entries, Places};
 pub use algebra::{independent, solve, Span};
 pub use mend::{burst_by_search, burst_by_trial, smallest_rectangle};
-pub use sheet::{cell, data_of, syndrome, turn_over, unused_bits, write_sheet, Cell};
+pub use sheet::{data_of, syndrome, turn_over, unused_bits, write_sheet, Cell};
 
 use crate::answer::Answer;
 use crate::plan::Plan;

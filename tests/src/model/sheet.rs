@@ -7,7 +7,7 @@ use crate::plan::Plan;
 pub type Cell = (usize, usize);
 
 /// Is the cell dark?
-pub fn cell(plan: &Plan, sheet: &[u8], (i, j): Cell) -> bool {
+fn cell(plan: &Plan, sheet: &[u8], (i, j): Cell) -> bool {
     sheet[i * plan.row_len() + j / 8] >> (j % 8) & 1 == 1
 }
 
@@ -63,7 +63,8 @@ pub fn write_sheet(plan: &Plan, data: &[u8]) -> Vec<u8> {
     }
     let checks = plan.checks.iter().map(|&(i, j)| (usize::from(i), usize::from(j)));
     let entries = checks.clone().map(|(i, j)| plan.joint(i, j));
-    let dark = solve(entries, syndrome(plan, &sheet)).expect("the check cells of an accepted plan span");
+    let dark =
+        solve(entries, syndrome(plan, &sheet)).expect("the check cells of an accepted plan span");
     for (index, at) in checks.enumerate() {
         if dark >> index & 1 == 1 {
             turn_over(plan, &mut sheet, at);

@@ -49,10 +49,12 @@ impl PairTest for Windows<'_> {
             if !echelon(&mut first[..B1 * B2]) {
                 return Some((i, i));
             }
-            for (group, &entry) in groups.iter_mut().zip(later) {
-                *group = first[..B1 * B2].iter().fold(entry, |rest, &member| reduce(rest, member));
+            let groups = &mut groups[..later.len()];
+            groups.copy_from_slice(later);
+            for &member in &first[..B1 * B2] {
+                reduce(groups, member);
             }
-            if let Some(group) = first_dependent_run::<B2, B1>(&groups[..later.len()]) {
+            if let Some(group) = first_dependent_run::<B2, B1>(groups) {
                 return Some((i, i + 1 + group));
             }
         }
@@ -83,25 +85,29 @@ impl PairTest for Strips<'_> {
     }
 }
 
-/// Clear the highest bit of `member` in `vector`: the smaller of the two is the one without it.
-fn reduce(vector: u32, member: u32) -> u32 {
-    vector.min(vector ^ member)
+/// Clear the highest bit of `member` in each vector: of a vector and its exclusive-or with the
+/// member, the smaller is the one without that bit.
+#[inline(always)]
+fn reduce(vectors: &mut [u32], member: u32) {
+    for vector in vectors {
+        *vector = (*vector).min(*vector ^ member);
+    }
 }
 
 /// Reduce each vector by those before it; true if none becomes 0.
+#[inline(always)]
 fn echelon(vectors: &mut [u32]) -> bool {
     let mut independent = true;
     for k in 0..vectors.len() {
-        independent &= vectors[k] != 0;
-        for later in k + 1..vectors.len() {
-            vectors[later] = reduce(vectors[later], vectors[k]);
-        }
+        let (before, later) = vectors.split_at_mut(k + 1);
+        independent &= before[k] != 0;
+        reduce(later, before[k]);
     }
     independent
 }
 
 /// The last group of the first dependent run of W groups of G vectors (of fewer at the start).
-fn first_dependent_run<const G: usize, const W: usize>(groups: &[u32]) -> Places1 {
+fn first_dependent_run<const G: usize, const W: usize>(groups: &[u32]) -> Option<usize> {
     if runs_independent::<G, W>(groups) {
         return None;
     }
@@ -111,8 +117,6 @@ fn first_dependent_run<const G: usize, const W: usize>(groups: &[u32]) -> Places
         !run.iter().all(|&vector| basis.add(vector))
     })
 }
-
-type Places1 = Option<usize>;
 
 /// Is each run of W groups independent? The shorter runs at the start are part of the first.
 fn runs_independent<const G: usize, const W: usize>(groups: &[u32]) -> bool {
@@ -140,15 +144,11 @@ fn two_runs_independent<const G: usize, const W: usize>(groups: &[u32]) -> bool 
     back.copy_from_slice(&groups[run..run + G]);
     let mut independent = true;
     for k in 0..middle_len {
-        let member = middle[k];
-        independent &= member != 0;
-        for later in k + 1..middle_len {
-            middle[later] = reduce(middle[later], member);
-        }
-        for g in 0..G {
-            front[g] = reduce(front[g], member);
-            back[g] = reduce(back[g], member);
-        }
+        let (before, later) = middle[..middle_len].split_at_mut(k + 1);
+        independent &= before[k] != 0;
+        reduce(later, before[k]);
+        reduce(&mut front, before[k]);
+        reduce(&mut back, before[k]);
     }
     independent & echelon(&mut front) & echelon(&mut back)
 }

@@ -7,7 +7,6 @@ mod sheets;
 
 pub use sheets::{read_accepted, write_accepted};
 
-use crate::answer::Answer;
 use crate::model::{accept_by, Places};
 use crate::plan::Plan;
 
@@ -17,7 +16,8 @@ pub fn plain_plan_test(bytes: &[u8]) -> u64 {
     packed(bytes, plain::windows, plain::strips)
 }
 
-/// The plan test in the best scalar Rust we could write without heap or large tables.
+/// The plan test in the best scalar Rust we could write that needs no more room than a copy of one
+/// table.
 pub fn best_plan_test(bytes: &[u8]) -> u64 {
     packed(bytes, best::windows, best::strips)
 }

@@ -1,0 +1,2 @@
+-- The laws of the packed answer.
+pub mod Fields

@@ -1,0 +1,24 @@
+// The answer of a call as one 64-bit number: eight fields, the number of the check lowest (docs/ANSWER.md).
+ghost use mathlib.Core.Path.{_≡_};
+ghost use Rattle.answer.specs.Answer.{InRange, fieldsOf, packed};
+
+pub struct Answer {
+    pub number: usize,
+    pub p: usize,
+    pub q: usize,
+    pub cells: usize,
+    pub top: usize,
+    pub left: usize,
+    pub height: usize,
+    pub width: usize,
+}
+
+// The eight fields in one number.
+pub fn pack(a: Answer) -> u64
+    requires { ⌜ InRange (fieldsOf a) ⌝ }
+    ensures { λ r. ⌜ r ≡ packed (fieldsOf a) ⌝ }
+{
+    let box_part = a.top + 512 * (a.left + 1024 * (a.height + 8 * a.width));
+    let place = a.p + 65536 * (a.q + 4096 * (a.cells + 32 * box_part));
+    (a.number + 32 * place) as u64
+}

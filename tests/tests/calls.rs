@@ -1,0 +1,259 @@
+//! sheet_write and sheet_read beside the model: answers and every byte of both buffers.
+
+use sheet_tests::answer::Answer;
+use sheet_tests::cases::{plan_s, plan_t, read_cases, write_cases};
+use sheet_tests::damage::damaged;
+use sheet_tests::ffi::Library;
+use sheet_tests::make::{accepted, burst_sizes, largest_4x4, powers_1x1, powers_3x3, CellOrder};
+use sheet_tests::model::{self, Cell};
+use sheet_tests::plan::Plan;
+use sheet_tests::rng::Rng;
+use sheet_tests::scans::{burst, random_burst, random_data, random_sheet, turned};
+use sheet_tests::tally::Tally;
+
+/// The library, and a generator for what the buffers hold before a call.
+struct Harness {
+    library: Library,
+    rng: Rng,
+}
+
+impl Harness {
+    fn new(seed: u64) -> Harness {
+        Harness { library: Library::new(seed), rng: Rng::new(!seed) }
+    }
+
+    /// Write by the library. Answer and sheet must be the model's.
+    fn write(&mut self, plan: &[u8], data: &[u8], sheet_len: usize) -> u64 {
+        let held = self.rng.bytes(sheet_len);
+        let (mut expected, mut sheet) = (held.clone(), held);
+        let answer = self.library.write(plan, data, &mut sheet);
+        let told = model::write(plan, data, &mut expected);
+        assert_eq!(answer, told.pack(), "library {:?}, model {told:?}", Answer::unpack(answer));
+        assert!(sheet == expected, "the written sheet differs from the model's");
+        answer
+    }
+
+    /// Read by the library. Answer, sheet and data must be the model's.
+    fn read(&mut self, plan: &[u8], scan: &[u8], data_len: usize) -> u64 {
+        let held = self.rng.bytes(data_len);
+        let (mut expected, mut expected_data) = (scan.to_vec(), held.clone());
+        let (mut sheet, mut data) = (scan.to_vec(), held);
+        let answer = self.library.read(plan, &mut sheet, &mut data);
+        let told = model::read(plan, &mut expected, &mut expected_data);
+        assert_eq!(answer, told.pack(), "library {:?}, model {told:?}", Answer::unpack(answer));
+        assert!(sheet == expected, "the sheet differs from the model's");
+        assert!(data == expected_data, "the data differs from the model's");
+        answer
+    }
+
+    /// A sheet that the library wrote from random data, compared with the model's.
+    fn written(&mut self, plan: Plan) -> Written {
+        let bytes = plan.encode();
+        let data = random_data(&plan, &mut self.rng);
+        assert_eq!(self.write(&bytes, &data, plan.sheet_len()), 0);
+        let sheet = model::write_sheet(&plan, &data);
+        Written { plan, bytes, data, sheet }
+    }
+
+    /// Demand 3: from the written sheet with a burst on it, the library gives back every byte of
+    /// the sheet, the data, the number of cells and the smallest rectangle that holds them.
+    fn mends(&mut self, written: &Written, burst: &[Cell]) {
+        let Written { plan, bytes, data, sheet } = written;
+        let mut scan = turned(plan, sheet, burst);
+        let mut text = self.rng.bytes(data.len());
+        let answer = self.library.read(bytes, &mut scan, &mut text);
+        assert_eq!(answer, model::smallest_rectangle(burst).pack(), "{burst:?} under {plan:?}");
+        assert!(scan == *sheet, "{burst:?} left a trace under {plan:?}");
+        assert!(text == *data, "{burst:?} spoilt the data under {plan:?}");
+    }
+}
+
+/// A plan, data, and the written sheet.
+struct Written {
+    plan: Plan,
+    bytes: Vec<u8>,
+    data: Vec<u8>,
+    sheet: Vec<u8>,
+}
+
+/// Cases 2 to 7 of 01.
+#[test]
+fn worked_sheets() {
+    let mut library = Library::new(1);
+    for (plan, data, expected) in write_cases() {
+        let mut sheet = vec![0xaa; expected.len()];
+        assert_eq!(library.write(&plan.encode(), &data, &mut sheet), 0);
+        assert_eq!(sheet, expected);
+    }
+    for (plan, mut sheet, expected) in read_cases() {
+        let mut data = vec![0xaa];
+        let answer = Answer::unpack(library.read(&plan.encode(), &mut sheet, &mut data));
+        match expected {
+            Some((numbers, mended, text)) => {
+                assert_eq!((answer.places(), answer.mended()), ((0, 0, 0), numbers));
+                assert_eq!((sheet, data), (mended, text));
+            }
+            None => assert_eq!(answer, Answer::refusal(14, 0, 0)),
+        }
+    }
+}
+
+/// Every sheet and every string of data under S and under T.
+#[test]
+fn all_sheets_of_the_worked_plans() {
+    let mut harness = Harness::new(2);
+    for (plan, sheets) in [(plan_s(), 512), (plan_t(), 256)] {
+        let bytes = plan.encode();
+        for pattern in 0..sheets {
+            let row = |i| (pattern >> (i * plan.n2)) as u8 & !model::unused_bits(&plan);
+            let scan: Vec<u8> = (0..plan.n1).map(row).collect();
+            harness.read(&bytes, &scan, plan.data_len());
+        }
+        for data in 0..1 << plan.data_bits() {
+            harness.write(&bytes, &[data], plan.sheet_len());
+        }
+    }
+}
+
+/// Hundreds of small plans: every rectangle and every pattern in it on a written sheet.
+#[test]
+fn every_burst_of_small_plans() {
+    let mut harness = Harness::new(3);
+    let (mut plans, mut bursts) = (0, 0);
+    for (b1, b2) in burst_sizes() {
+        // The larger the burst, the more patterns there are, and the fewer plans are tried.
+        let (count, more) = match b1 * b2 {
+            1..=6 => (24, 5),
+            7..=9 => (12, 3),
+            10..=12 => (6, 2),
+            _ => (2, 1),
+        };
+        for _ in 0..count {
+            let plan = accepted(&mut harness.rng, b1, b2, more);
+            let written = harness.written(plan);
+            for top in 0..=written.plan.n1 - b1 {
+                for left in 0..=written.plan.n2 - b2 {
+                    for pattern in 0..1 << (b1 * b2) {
+                        harness.mends(&written, &burst(&written.plan, top, left, pattern));
+                        bursts += 1;
+                    }
+                }
+            }
+            plans += 1;
+        }
+    }
+    println!("{bursts} bursts on sheets of {plans} plans");
+    assert!(plans >= 200 && bursts >= 100_000);
+}
+
+/// Random sheets and sheets with two bursts: 14 or a mend, as the model says.
+#[test]
+fn sheets_that_need_not_be_mendable() {
+    let mut harness = Harness::new(4);
+    let (mut random, mut two_bursts) = (Tally::default(), Tally::default());
+    for (b1, b2) in burst_sizes() {
+        for _ in 0..20 {
+            let plan = accepted(&mut harness.rng, b1, b2, 8);
+            let Written { plan, bytes, data, sheet } = harness.written(plan);
+            for _ in 0..10 {
+                let scan = random_sheet(&plan, &mut harness.rng);
+                random.count(harness.read(&bytes, &scan, data.len()));
+                let first = random_burst(&plan, &mut harness.rng);
+                let second = random_burst(&plan, &mut harness.rng);
+                let scan = turned(&plan, &turned(&plan, &sheet, &first), &second);
+                two_bursts.count(harness.read(&bytes, &scan, data.len()));
+            }
+        }
+    }
+    random.require("sheet_read, random sheets", &[(0..=0, 100), (14..=14, 1000)]);
+    two_bursts.require("sheet_read, two bursts", &[(0..=0, 100), (14..=14, 1000)]);
+}
+
+/// Every number: good and damaged plans, buffers of right and wrong lengths, unused bits set.
+#[test]
+fn every_number() {
+    let mut harness = Harness::new(5);
+    let (mut writes, mut reads) = (Tally::default(), Tally::default());
+    for (b1, b2) in burst_sizes() {
+        for _ in 0..50 {
+            let plan = accepted(&mut harness.rng, b1, b2, 8);
+            let Written { plan, bytes, data, sheet } = harness.written(plan);
+            for _ in 0..24 {
+                let rng = &mut harness.rng;
+                let bytes = if rng.one_in(2) { bytes.clone() } else { damaged(&plan, rng) };
+                let mut data = data.clone();
+                let mut scan = if rng.one_in(3) {
+                    random_sheet(&plan, rng)
+                } else {
+                    turned(&plan, &sheet, &random_burst(&plan, rng))
+                };
+                if rng.one_in(4) {
+                    set_unused_bits(&plan, &mut data, &mut scan, rng);
+                }
+                if rng.one_in(4) {
+                    alter_length(&mut scan, rng);
+                }
+                if rng.one_in(4) {
+                    alter_length(&mut data, rng);
+                }
+                writes.count(harness.write(&bytes, &data, scan.len()));
+                reads.count(harness.read(&bytes, &scan, data.len()));
+            }
+        }
+    }
+    writes.require("sheet_write", &[(0..=0, 1000), (1..=13, 100)]);
+    reads.require("sheet_read", &[(0..=0, 1000), (1..=14, 100)]);
+}
+
+/// One byte or a few more or fewer, or none at all.
+fn alter_length(buffer: &mut Vec<u8>, rng: &mut Rng) {
+    match rng.below(3) {
+        0 => buffer.truncate(buffer.len().saturating_sub(rng.within(1, 3))),
+        1 => buffer.clear(),
+        _ => buffer.resize(buffer.len() + rng.within(1, 3), 0),
+    }
+}
+
+/// Set an unused bit of the data, and one of some row of the sheet, where there is any.
+fn set_unused_bits(plan: &Plan, data: &mut [u8], scan: &mut [u8], rng: &mut Rng) {
+    let in_data = 8 * plan.data_len() - plan.data_bits();
+    if in_data > 0 {
+        data[plan.data_len() - 1] |= 0x80 >> rng.below(in_data);
+    }
+    let in_row = 8 * plan.row_len() - plan.n2;
+    if in_row > 0 {
+        let row_end = rng.within(1, plan.n1) * plan.row_len() - 1;
+        scan[row_end] |= 0x80 >> rng.below(in_row);
+    }
+}
+
+/// Full size: bursts in all corners, at the edges and inside; two bursts; a random sheet.
+#[test]
+fn full_size() {
+    let mut harness = Harness::new(6);
+    for plan in [
+        powers_1x1(CellOrder::Scattered, &mut harness.rng),
+        powers_3x3(512, 698, CellOrder::Sheet, &mut harness.rng),
+        powers_3x3(512, 698, CellOrder::Scattered, &mut harness.rng),
+        largest_4x4(CellOrder::Scattered, &mut harness.rng),
+    ] {
+        let written = harness.written(plan);
+        let plan = &written.plan;
+        let (bottom, right) = (plan.n1 - plan.b1, plan.n2 - plan.b2);
+        for top in [0, bottom / 2, bottom] {
+            for left in [0, right / 2, right] {
+                for pattern in [u32::MAX, harness.rng.bits(plan.b1 * plan.b2)] {
+                    harness.mends(&written, &burst(plan, top, left, pattern));
+                }
+            }
+        }
+        let corners = [(0, 0), (0, plan.n2 - 1), (plan.n1 - 1, 0), (plan.n1 - 1, plan.n2 - 1)];
+        for corner in corners {
+            harness.mends(&written, &[corner]);
+        }
+        harness.mends(&written, &[]);
+        harness.read(&written.bytes, &turned(plan, &written.sheet, &corners), plan.data_len());
+        let scan = random_sheet(plan, &mut harness.rng);
+        harness.read(&written.bytes, &scan, plan.data_len());
+    }
+}
