@@ -1,0 +1,2 @@
+-- The theorem of the table of cases.
+pub mod Cases
