@@ -1,18 +1,28 @@
--- Predicates that hold only in a run of places: searches and counts over all places are those over the run.
+-- Sums that are 0, and predicates that hold nowhere, outside a run of places: over all places they are those over the run.
 --
+--   run-sum            the sum over all places is the sum over the run
 --   Run n a m p q      below n, p holds only at the m places from a on, and there it is q
 --   run-any, run-count, run-first, run-past   some place, how many, the first, and one more than the last
 --
 -- Assumes nothing.
-use mathlib.Core.Path.{_≡_, sym, ap, ap₂, _∙_}
+use mathlib.Core.Path.{_≡_, refl, sym, ap, ap₂, _∙_}
 use mathlib.Core.Bool.{Bool, true}
 use Prim.Native.Nat.{ℕ, suc, _+_, _-_, _≤_, _<_}
 use native.Mathlib.Omega.{arith}
+use Rattle.gf2.specs.Sum.{xorSum}
 use Rattle.finite.specs.Search.{anyBelow, countBelow, firstOf, pastOf}
 use Rattle.finite.proofs.Truth.{not-true, same-truth}
 use Rattle.finite.proofs.Search.{any-found, any-here, first-is, past-le, past-above, past-last}
 use Rattle.finite.proofs.Count.{count-equal, count-none, count-split}
+use Rattle.boxcode.proofs.Image.{sum-image}
 use Rattle.mend.proofs.Turns.{first-found}
+
+-- for a sum, the run is given by what is outside
+pub run-sum : (n a m : ℕ) (f : ℕ → ℕ) → a + m ≤ n → ((t : ℕ) → (a ≤ t → t < a + m → ⊥) → f t ≡ 0) → xorSum n f ≡ xorSum m (λ k. f (a + k))
+run-sum n a m f on off =
+    sum-image m n (λ k. a + k) (record { below = λ k l. omega arith; different = λ k l lk ll e. omega arith })
+    f (λ k. f (a + k)) (λ k l. refl)
+    (λ t lt miss. off t (λ from to. miss (t - a) (omega arith) (omega arith)))
 
 pub record Run (n a m : ℕ) (p q : ℕ → Bool) : Type 0 where
   pub on : a + m ≤ n

@@ -1,6 +1,5 @@
 -- Patterns of a window, and the fit by its V entries.
 --
---   run-sum           a sum that is 0 outside a run of places is the sum over the run
 --   rows-fit          the positions of a window are positions of the table
 --   gathered          an array with the window's entries
 --   in-window, window-place, window-sum   a choice among them, as positions of the table: it is in the window, and has their sum
@@ -36,16 +35,11 @@ use Rattle.finite.specs.Search.{bit, within}
 use Rattle.finite.proofs.Truth.{Truth, is-true, is-false, true-or-false, not-true, and-left, or-left, within-from, within-to, in-within}
 use Rattle.boxcode.specs.Code.{Code, Formed}
 use Rattle.boxcode.specs.Condition.{Conditions, rowMember}
-use Rattle.boxcode.proofs.Image.{sum-image, unpicked}
+use Rattle.boxcode.proofs.Image.{unpicked}
 use Rattle.boxcode.proofs.Pattern.{InWindow}
 use Rattle.boxcode.proofs.Condition.{rows-free}
 use Rattle.mend.specs.Window.{entryAt, windowEntries, Gathered, inWindow, windowSum}
-
-pub run-sum : (n a m : ℕ) (f : ℕ → ℕ) → a + m ≤ n → ((t : ℕ) → (a ≤ t → t < a + m → ⊥) → f t ≡ 0) → xorSum n f ≡ xorSum m (λ k. f (a + k))
-run-sum n a m f on off =
-    sum-image m n (λ k. a + k) (record { below = λ k l. omega arith; different = λ k l lk ll e. omega arith })
-    f (λ k. f (a + k)) (λ k l. refl)
-    (λ t lt miss. off t (λ from to. miss (t - a) (omega arith) (omega arith)))
+use Rattle.mend.proofs.Runs.{run-sum}
 
 pub rows-fit : (i b n w : ℕ) → i + b ≤ n → i * w + b * w ≤ n * w
 rows-fit i b n w l = let e : (i + b) * w ≡ i * w + b * w = add-mul i b w in let m : (i + b) * w ≤ n * w = mul-le-mul-right w l in omega arith

@@ -1,9 +1,9 @@
 -- A pattern laid on a strip of b2 consecutive columns.
 --
---   BurstSize b1 b2     sizes of a burst: from 1 to 4
+--   BurstSize b1 b2   sizes of a burst: from 1 to 4
 --   wordAt words k    word k of an unpacked table
---   laidCell, laidRow, laidLine, laidSum   the H entry of a cell of pattern x where the cell is in it, the H sum of a row, and of all,
---                     of the window at row i on the strip at column a, by the table entry
+--   laidSum           the H sum of pattern x of the window at row i, laid on the strip at column a, by a table of H entries
+--   laidCell, laidRow, laidLine   what a cell adds to it, and what a row adds
 --   fitsOn            the H sum on a strip is the one that is asked for
 --   laidDigit b2 a x  the digits of the pattern by columns: digit r × b2 + d is that of row r and the remainder of column a + d
 --   boxPattern        the number with these digits

@@ -3,7 +3,7 @@
 --   windowEntries c i      the V entries of the window at row i, b1 × b2 of them
 --   Gathered c i words     an array that begins with them
 --   inWindow c i m         the choice m among these entries, as positions of the row table
---   windowSum c i x        the V sum of pattern number x of the window: digit r × b2 + t stands for row i + r and remainder t
+--   windowSum c i m        its V sum. Pattern number x is the choice `bit x`: digit r × b2 + t stands for row i + r and remainder t
 --   FitFor c i v r         r is the pattern of the window whose V sum is v, or there is none
 use Prim.Native.Nat.{ℕ, _+_, _-_, _*_, _^_, _<_}
 use mathlib.Core.Path.{_≡_}

@@ -2,8 +2,10 @@
 --
 --   byte-light, byte-first, byte-next    the sum of a byte that is 0, of no cells, and of one cell more
 --   byte-below, line-below               a bound by a power of two
---   dark-times                           a weight times a digit is the weight where the digit is 1, else 0
---   line-byte, line-equal                        the cells of a row before a byte, and then those of the byte
+--   dark-times, times-le, rest-next      a weight times a digit is the weight where the digit is 1, else 0; the digits that are left
+--   line-byte                            the cells of a row before a byte, and then those of the byte
+--   line-equal                           equal weights give equal sums
+--   place-next, index-next               the counters of a walk along a row
 --   place-below, index-below, row-weight, column-weight   the weights of columns by their tables
 --   Walk, walk-first, walk-next, walk-here   where a walk along the cells of a byte stands, and what it reads there
 --

@@ -6,15 +6,18 @@
 --   RowWords f n words   words k is f k, for the n entries of V that a row has
 --   Words                what gathering a row asks of its tables
 --   TwoSums v h r        r has the sums v and h, which have at most 32 bits
---   FirstRows c n s r    r has the two sums of the first n rows of the sheet s
-use Prim.Native.Nat.{ℕ, _+_, _*_, _%_, _≤_, _<_}
+--   ByteSums .. r        r has the two sums of the cells from column j on that stand in the byte x
+--   RowSums c s i r      r has the two sums of row i of the sheet s
+--   FirstRows c n s r    r has the two sums of the first n rows
+--   SheetSums c s r      r has the two sums of the sheet
+use Prim.Native.Nat.{ℕ, _+_, _-_, _*_, _%_, _≤_, _<_, min}
 use mathlib.Core.Path.{_≡_}
 use mathlib.Core.List.{List}
 use lib.ListN.{length, getD}
 use Rattle.finite.specs.Search.{bit}
 use Rattle.gf2.specs.Sum.{chosenSum}
 use Rattle.boxcode.specs.Code.{Code, rowWeight, columnWeight}
-use Rattle.boxcode.specs.Syndrome.{Cells, weightSum}
+use Rattle.boxcode.specs.Syndrome.{Cells, weightSum, rowSyndrome, columnSyndrome}
 use Rattle.syndrome.specs.declared.sums.Sums.{Sums}
 
 unfoldable pub rowSum : ℕ → (ℕ → ℕ → ℕ) → Cells → ℕ → ℕ
@@ -51,5 +54,15 @@ pub record TwoSums (v h : ℕ) (r : Sums) : Type 0 where
   pub row-below : r .row < 4294967296
   pub column-below : r .column < 4294967296
 
+abbrev pub ByteSums : (n2 b1 b2 q : ℕ) → List ℕ → List ℕ → ℕ → ℕ → Sums → Type 0
+ByteSums n2 b1 b2 q rows columns x j r =
+    TwoSums (byteSum (rowsAt b2 rows) x j (min 8 (n2 - j))) (byteSum (columnsAt b1 q columns) x j (min 8 (n2 - j))) r
+
+abbrev pub RowSums : Code → Cells → ℕ → Sums → Type 0
+RowSums c s i r = TwoSums (rowSum (c .n2) (rowWeight c) s i) (rowSum (c .n2) (columnWeight c) s i) r
+
 abbrev pub FirstRows : Code → ℕ → Cells → Sums → Type 0
 FirstRows c n s r = TwoSums (weightSum n (c .n2) (rowWeight c) s) (weightSum n (c .n2) (columnWeight c) s) r
+
+abbrev pub SheetSums : Code → Cells → Sums → Type 0
+SheetSums c s r = TwoSums (rowSyndrome c s) (columnSyndrome c s) r

@@ -3,12 +3,10 @@ ghost use mathlib.Core.Path.{_≡_};
 ghost use Prim.Native.Nat.{ℕ, _+_, _-_, _*_, _%_, _≤_, _<_, min};
 ghost use lib.ListN.{length};
 ghost use Rattle.layout.specs.Cells.{sheetBytes, cellOf};
-ghost use Rattle.boxcode.specs.Code.{rowWeight, columnWeight};
-ghost use Rattle.boxcode.specs.Syndrome.{rowSyndrome, columnSyndrome};
 ghost use Rattle.plan.specs.Header.{Framed, columnsStart};
 ghost use Rattle.plan.specs.Bytes.{rowEntryAt, codeWith};
 ghost use Rattle.plan.specs.Table.{Unpacked};
-ghost use Rattle.syndrome.specs.Gather.{rowSum, byteSum, rowsAt, columnsAt, RowWords, Words, TwoSums};
+ghost use Rattle.syndrome.specs.Gather.{RowWords, Words, ByteSums, RowSums, SheetSums};
 use crate::sums::Sums;
 use layout::cells::row_bytes;
 use plan::entry::row_entry;
@@ -64,7 +62,7 @@ fn byte_sums(
 ) -> Sums
     requires { ⌜ Words n2 b1 b2 q rows (now columns) ⌝ }
     requires { ⌜ j < n2 ⌝ }
-    ensures { λ r. ⌜ TwoSums (byteSum (rowsAt b2 rows) x j (min 8 (n2 - j))) (byteSum (columnsAt b1 q (now (columns .entry))) x j (min 8 (n2 - j))) r ⌝ }
+    ensures { λ r. ⌜ ByteSums n2 b1 b2 q rows (now (columns .entry)) x j r ⌝ }
 {
     if x == 0 {
         return Sums { row: 0, column: 0 };
@@ -93,7 +91,7 @@ pub fn row_sums(sheet: &[u8], plan: &[u8], h: Header, columns: &[u64], i: usize)
     requires { ⌜ Unpacked (now plan) (columnsStart h) (h .n2 * h .b1) (now columns) ⌝ }
     requires { ⌜ length (now sheet) ≡ sheetBytes (h .n1) (h .n2) ⌝ }
     requires { ⌜ i < h .n1 ⌝ }
-    ensures { λ r. ⌜ TwoSums (rowSum (h .n2) (rowWeight (codeWith (now (plan .entry)) h)) (cellOf (h .n2) (now (sheet .entry))) i) (rowSum (h .n2) (columnWeight (codeWith (now (plan .entry)) h)) (cellOf (h .n2) (now (sheet .entry))) i) r ⌝ }
+    ensures { λ r. ⌜ RowSums (codeWith (now (plan .entry)) h) (cellOf (h .n2) (now (sheet .entry))) i r ⌝ }
 {
     let rows = row_words(plan, h, i);
     let size = row_bytes(h.n2);
@@ -116,7 +114,7 @@ pub fn sums(sheet: &[u8], plan: &[u8], h: Header, columns: &[u64]) -> Sums
     requires { ⌜ Framed (now plan) h ⌝ }
     requires { ⌜ Unpacked (now plan) (columnsStart h) (h .n2 * h .b1) (now columns) ⌝ }
     requires { ⌜ length (now sheet) ≡ sheetBytes (h .n1) (h .n2) ⌝ }
-    ensures { λ r. ⌜ TwoSums (rowSyndrome (codeWith (now (plan .entry)) h) (cellOf (h .n2) (now (sheet .entry)))) (columnSyndrome (codeWith (now (plan .entry)) h) (cellOf (h .n2) (now (sheet .entry)))) r ⌝ }
+    ensures { λ r. ⌜ SheetSums (codeWith (now (plan .entry)) h) (cellOf (h .n2) (now (sheet .entry))) r ⌝ }
 {
     let mut row = 0u64;
     let mut column = 0u64;

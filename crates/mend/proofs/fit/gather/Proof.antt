@@ -2,21 +2,16 @@
 use mathlib.Core.Path.{_≡_, refl, _∙_}
 use mathlib.Core.List.{List}
 use Prim.Native.Nat.{ℕ, _+_, _-_, _*_, _≤_, _<_}
-use native.Mathlib.Nat.{mul-le-mul}
 use native.Mathlib.Decide.{ℕ-discrete}
 use native.Mathlib.Omega.{arith}
 use lib.ListN.{length, getD, set, length-set}
 use lib.Seq.{getD-set-same, getD-set-other}
 use Rattle.plan.specs.Bytes.{codeWith}
-use Rattle.plan.specs.Header.{Small}
-use Rattle.plan.specs.declared.header.Header.{Header}
 use Rattle.mend.specs.Window.{entryAt}
+use Rattle.mend.proofs.Turns.{small-burst, box-size}
 use Rattle.mend.proofs.Window.{rows-fit, gathered}
 use Rattle.mend.proofs.fit.gather.Statement.{statement}
 use Rattle.mend.proofs.fit.gather.Tie as tie
-
-inside : (h : Header) (i : ℕ) → Small h → i + h .b1 ≤ h .n1 → (i * h .b2 + h .b1 * h .b2 ≤ h .n1 * h .b2) × (h .n1 * h .b2 ≤ 2048) × (h .b1 * h .b2 ≤ 16)
-inside h i S l = (rows-fit i (h .b1) (h .n1) (h .b2) l, S .row-positions, mul-le-mul (S .b1-most) (S .b2-most))
 
 -- one entry more is stored
 one-more : (f : ℕ → ℕ) (words : List ℕ) (k x : ℕ) → k < 16 → length words ≡ 16 → ((j : ℕ) → j < k → getD words j 0 ≡ f j) → x ≡ f k
@@ -33,32 +28,37 @@ Inv-loop plan h i words₀ first size k₀ words k = (k ≤ size) × (length wor
 abbrev μ-loop : tie.MeasureT-loop
 μ-loop plan h i words₀ first size k₀ words k = size - k
 
+-- the window's positions are positions of the table, and fit the array
+room : (c : tie.Start Inv-loop μ-loop) → (c .args .i * c .args .h .b2 + c .args .h .b1 * c .args .h .b2 ≤ c .args .h .n1 * c .args .h .b2)
+    × (c .args .h .n1 * c .args .h .b2 ≤ 2048) × (c .args .h .b1 * c .args .h .b2 ≤ 16)
+room c =
+    let h = c .args .h in
+    let S = c .pre .0 .small in
+    (rows-fit (c .args .i) (h .b1) (h .n1) (h .b2) (c .pre .1), S .row-positions, box-size (small-burst S))
+
 mul-first : tie.Need-mul-first Inv-loop μ-loop
-mul-first c = let a = c .before .before in let l = inside (a .args .h) (a .args .i) (a .pre .0 .small) (a .pre .1) in omega arith
+mul-first c = let l = room (c .before .before) in omega arith
 
 mul-size : tie.Need-mul-size Inv-loop μ-loop
-mul-size c = let a = c .before .before .before in let l = inside (a .args .h) (a .args .i) (a .pre .0 .small) (a .pre .1) in omega arith
+mul-size c = let l = room (c .before .before .before) in omega arith
 
 loop-holds : tie.Need-loop-holds Inv-loop μ-loop
 loop-holds c = (omega arith, refl, λ j l. absurd (omega arith))
 
 add-row-entry : tie.Need-add-row-entry Inv-loop μ-loop
-add-row-entry c = let a = c .before .before .before .before .before in let l = inside (a .args .h) (a .args .i) (a .pre .0 .small) (a .pre .1) in omega arith
+add-row-entry c = let l = room (c .before .before .before .before .before) in omega arith
 
 row-entry-requires : tie.Need-row-entry-requires Inv-loop μ-loop
-row-entry-requires c κs = let a = c .before .before .before .before .before in let l = inside (a .args .h) (a .args .i) (a .pre .0 .small) (a .pre .1) in (a .pre .0, omega arith)
+row-entry-requires c κs = let l = room (c .before .before .before .before .before) in (c .before .before .before .before .before .pre .0, omega arith)
 
 mul-words : tie.Need-mul-words Inv-loop μ-loop
-mul-words c = let a = c .before .before .before .before .before .before in let l = inside (a .args .h) (a .args .i) (a .pre .0 .small) (a .pre .1) in omega arith
+mul-words c = let l = room (c .before .before .before .before .before .before) in omega arith
 
 array-write-words : tie.Need-array-write-words Inv-loop μ-loop
-array-write-words c = let a = c .before .before .before .before .before .before in let l = inside (a .args .h) (a .args .i) (a .pre .0 .small) (a .pre .1) in omega arith
+array-write-words c = let l = room (c .before .before .before .before .before .before) in omega arith
 
 add-k : tie.Need-add-k Inv-loop μ-loop
-add-k c =
-    let a = c .before .before .before .before .before .before in
-    let l = inside (a .args .h) (a .args .i) (a .pre .0 .small) (a .pre .1) in
-    omega arith
+add-k c = let l = room (c .before .before .before .before .before .before) in omega arith
 
 loop-less : tie.Need-loop-less Inv-loop μ-loop
 loop-less c = omega arith
@@ -67,7 +67,7 @@ loop-again : tie.Need-loop-again Inv-loop μ-loop
 loop-again c =
     let a = c .before .before .before .before .before .before in
     let w = c .before .before .loop in
-    let l = inside (a .args .h) (a .args .i) (a .pre .0 .small) (a .pre .1) in
+    let l = room a in
     let m = one-more (entryAt (codeWith (a .args .plan .now) (a .args .h)) (a .args .i)) (w .words) (w .k) _ (omega arith) (w .inv .1) (w .inv .2) (c .row-entry .ensures .value) in
     (omega arith, m .0, m .1)
 
@@ -75,7 +75,7 @@ returns : tie.Need-returns Inv-loop μ-loop
 returns c =
     let a = c .before .before .before .before .before in
     let w = c .before .loop in
-    let l = inside (a .args .h) (a .args .i) (a .pre .0 .small) (a .pre .1) in
+    let l = room a in
     gathered (codeWith (a .args .plan .now) (a .args .h)) (a .args .i) (w .words) (l .2) (w .inv .1) (λ k lk. w .inv .2 k (omega arith))
 
 pub gather-spec : {M : Type 1} → statement M

@@ -1,7 +1,6 @@
 -- `mend::fit::window_fit` meets its contract: the solver for the window's entries answers for the window. Assumes nothing.
 use mathlib.Core.Path.{_≡_, sym}
 use Prim.Native.Nat.{ℕ, _*_, _≤_}
-use native.Mathlib.Nat.{mul-le-mul}
 use native.Mathlib.Omega.{arith}
 use borrow.Author.Needs.{needs}
 use mathlib.Core.List.{List}
@@ -9,6 +8,7 @@ use Rattle.gf2.specs.Solver.{solved, solverOf}
 use Rattle.gf2.specs.declared.Solver.{Solver}
 use Rattle.gf2.specs.declared.Solution.{Solution}
 use Rattle.plan.specs.Bytes.{codeWith}
+use Rattle.mend.proofs.Turns.{small-burst, box-size}
 use Rattle.mend.proofs.Window.{fit-pattern, fit-nothing}
 use lib.Seq.{length-take-le}
 use Rattle.mend.proofs.fit.window_fit.Statement.{statement}
@@ -20,7 +20,7 @@ answer : (r : Solution) (s : Solver) (vs ws : List ℕ) (v : ℕ) (t : Solution)
 answer r s vs ws v t a b e q = rw (← e, ← b, ← a) q
 
 few : (c : tie.Start) → c .args .h .b1 * c .args .h .b2 ≤ 16
-few c = let F = c .pre .0 .formed in mul-le-mul (F .b1-most) (F .b2-most)
+few c = box-size (small-burst (c .pre .0 .framed .small))
 
 gather-requires : tie.Need-gather-requires
 gather-requires c κs = search needs

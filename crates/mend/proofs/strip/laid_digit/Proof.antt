@@ -1,15 +1,17 @@
 -- `mend::strip::laid_digit` meets its contract. Assumes nothing.
-use Prim.Native.Nat.{_+_, _/_, _%_, _*_, _<_}
-use native.Mathlib.Nat.{mod-lt, div-mul-le-self}
+use Prim.Native.Nat.{ℕ, _+_, _*_, _/_, _%_, _≤_, _<_}
+use native.Mathlib.Nat.{mod-lt, div-mul-le-self, lt-of-lt-of-le}
 use native.Mathlib.Omega.{arith}
+use lib.Dec.{lit≤}
 use Rattle.mend.specs.Strip.{laidDigit}
 use Rattle.mend.proofs.Turns.{bit-value}
 use borrow.Author.Needs.{needs}
 use Rattle.mend.proofs.strip.laid_digit.Statement.{statement}
 use Rattle.mend.proofs.strip.laid_digit.Tie as tie
 
-place : (c : tie.Start) → c .args .k / c .args .b2 * c .args .b2 + (c .args .a + c .args .k % c .args .b2) % c .args .b2 < 64
-place c = omega (arith, div-mul-le-self (c .args .k) (c .args .b2), mod-lt (c .args .a + c .args .k % c .args .b2) {m = c .args .b2} (omega arith))
+-- a digit of a row, by any remainder
+place : (k n b : ℕ) → k < 16 → 0 < b → b ≤ 4 → k / b * b + n % b < 64
+place k n b l pos few = omega (arith, div-mul-le-self k b, mod-lt n pos)
 
 div-row : tie.Need-div-row
 div-row c = search needs
@@ -21,16 +23,16 @@ rem-t : tie.Need-rem-t
 rem-t c = search needs
 
 add-t : tie.Need-add-t
-add-t c = omega (arith, mod-lt (c .args .k) {m = c .args .b2} (omega arith))
+add-t c = omega (arith, div-mul-le-self (c .args .k) (c .args .b2), mod-lt (c .args .k) {m = c .args .b2} (omega arith))
 
 rem-t-2 : tie.Need-rem-t-2
 rem-t-2 c = search needs
 
 add-result : tie.Need-add-result
-add-result c = let l = place c in omega arith
+add-result c = record { fits = lt-of-lt-of-le (place _ _ _ (omega arith) (omega arith) (omega arith)) (lit≤ tt) }
 
 shr-result : tie.Need-shr-result
-shr-result c = place c
+shr-result c = place _ _ _ (omega arith) (omega arith) (omega arith)
 
 returns : tie.Need-returns
 unfolding laidDigit

@@ -26,15 +26,17 @@ add-t8 c = let m = cells-most _ (c .before .before .before .before .before .befo
 
 next-check-requires : tie.Need-next-check-requires
 next-check-requires c κs =
-    let pre = c .before .before .before .before .before .before .before .pre in
-    let e : c .before .before .before .before .before .before .before .args .at .cell ≡ c .before .before .before .before .before .before .before .args .at .next = omega arith in
+    let start = c .before .before .before .before .before .before .before in
+    let pre = start .pre in
+    let e : start .args .at .cell ≡ start .args .at .next = omega arith in
     let l = check-left _ (pre .1 .0) _ (pre .1 .1 .0) (pre .1 .1 .1) e in
     (pre .0, omega arith)
 
 returns : tie.Need-returns
 returns c =
-    let pre = c .before .before .before .before .before .before .before .before .pre in
-    let e : c .before .before .before .before .before .before .before .before .args .at .cell ≡ c .before .before .before .before .before .before .before .before .args .at .next = omega arith in
+    let start = c .before .before .before .before .before .before .before .before in
+    let pre = start .pre in
+    let e : start .args .at .cell ≡ start .args .at .next = omega arith in
     record {
       at = at-pass _ (pre .1 .0) _ (pre .1 .1 .0) (pre .1 .1 .1) _ _ (c .before .before .before .before .before .before .row-after .ensures) (c .before .before .before .before .before .column-after .ensures) _ e (c .next-check .ensures);
       one = refl;
@@ -52,8 +54,9 @@ add-t11 c =
 
 returns-2 : tie.Need-returns-2
 returns-2 c =
-    let pre = c .before .before .before .before .before .before .before .pre in
-    let ne : c .before .before .before .before .before .before .before .args .at .cell ≡ c .before .before .before .before .before .before .before .args .at .next → ⊥ = c .before .before .if1 .left in
+    let start = c .before .before .before .before .before .before .before in
+    let pre = start .pre in
+    let ne : start .args .at .cell ≡ start .args .at .next → ⊥ = c .before .before .if1 .left in
     record {
       at = at-fill _ (pre .1 .0) _ (pre .1 .1 .0) (pre .1 .1 .1) _ _ (c .before .before .before .before .before .row-after .ensures) (c .before .before .before .before .column-after .ensures) ne;
       one = refl;

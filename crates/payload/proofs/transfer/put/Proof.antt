@@ -55,10 +55,11 @@ loop-holds c =
 put-bit-requires : tie.Need-put-bit-requires Inv-loop μ-loop
 unfolding dataSize
 put-bit-requires c κs =
-    let pre = c .before .before .before .before .before .before .before .before .before .before .before .before .before .pre in
+    let start = c .before .before .before .before .before .before .before .before .before .before .before .before .before in
+    let pre = start .pre in
     let v = c .before .before .loop .inv in
     let F = pre .1 .0 in
-    let l : c .before .before .loop .at .cell < c .before .before .before .before .before .before .before .before .before .before .before .before .before .args .h .n1 * c .before .before .before .before .before .before .before .before .before .before .before .before .before .args .h .n2 = omega arith in
+    let l : c .before .before .loop .at .cell < start .args .h .n1 * start .args .h .n2 = omega arith in
     let m = cells-most _ (pre .0 .small) in
     let b = byte-inside _ _ (v .5 .column-in) _ _ (at-row _ F _ (v .5) l) in
     let s = ap length (v .6) ∙ bytes-form _ _ _ .size in
