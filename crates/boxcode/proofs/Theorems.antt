@@ -10,7 +10,7 @@
 --   report-cells, report-inside, report-least, report-none, burst-report   the five numbers are the number of cells and the
 --                      smallest rectangle, five zeros for the empty set, and small for a burst (from Report)
 --
--- Assumes nothing but what it takes as Spans.
+-- Assumes nothing.
 use mathlib.Core.Path.{_≡_}
 use mathlib.Core.Logic.{_↔_}
 use mathlib.Core.Bool.{true}
@@ -24,7 +24,7 @@ use Rattle.boxcode.specs.Reader.{mendable, change, mended}
 use Rattle.boxcode.proofs.Separated.{fits-unique}
 use Rattle.boxcode.proofs.Condition.{separated}
 use Rattle.boxcode.proofs.Written as Written
-use Rattle.boxcode.proofs.Written.{Spans, writable}
+use Rattle.boxcode.proofs.Written.{writable}
 use Rattle.boxcode.proofs.Reader as Reader
 pub use Rattle.boxcode.proofs.Reader.{Reads}
 pub use Rattle.boxcode.proofs.Burst.{burst-none}
@@ -53,22 +53,21 @@ module _ (c : Code) (F : Formed c) (K : Conditions c) where
   pub at-most-one : (s e e' : Cells) → Burst c e → Burst c e' → Fits c s e → Fits c s e' → (i j : ℕ) → e i j ≡ e' i j
   at-most-one = fits-unique c (separated c F K)
 
-module _ (spans : Spans) (c : Code) (F : Formed c) (K : Conditions c) where
   -- 01: "the one sheet .. that holds this string in the cells that are not check cells .. and belongs to the plan"
   pub written-belongs : (x : Bits) → Belongs c (written c x)
-  written-belongs = writable spans c F K .belongs
+  written-belongs = writable c F K .belongs
 
   pub written-only : (x : Bits) (s : Cells) → Belongs c s → ((d : ℕ) → d < dataSize c → dataOf c s d ≡ x d) → SameCells c s (written c x)
-  written-only = Written.written-only c F (writable spans c F K)
+  written-only = Written.written-only c F (writable c F K)
 
   pub mended-written : (s : Cells) → mendable c s ≡ true → SameCells c (mended c s) (written c (dataOf c (mended c s)))
-  mended-written = Reader.mended-written c F (writable spans c F K)
+  mended-written = Reader.mended-written c F (writable c F K)
 
   -- 01, demand 3: from a written sheet with one blot on it the reader gives the written sheet, the data and the blot's report
   pub reads : (x : Bits) (e s : Cells) → Burst c e → SameCells c s (flip (written c x) e) → Reads c x e s
-  reads = Reader.reads c F (writable spans c F K) (separated c F K)
+  reads = Reader.reads c F (writable c F K) (separated c F K)
 
   -- 01, demand 3: what was written can be told from what is read
   pub data-apart : (x x' : Bits) (e e' : Cells) → Burst c e → Burst c e' → SameCells c (flip (written c x) e) (flip (written c x') e')
       → (d : ℕ) → d < dataSize c → x d ≡ x' d
-  data-apart = Reader.data-apart c F (writable spans c F K) (separated c F K)
+  data-apart = Reader.data-apart c F (writable c F K) (separated c F K)

@@ -1,26 +1,30 @@
 -- The written sheet:
 --
---   Spans            independent numbers of n bits, n of them, give every number of n bits (the algebra that writing rests on)
+--   spans-all        independent numbers of n bits, n of them, give every number of n bits (the algebra that writing rests on)
 --   belongs-true, true-belongs   the test of belonging
---   checks-sum       the joint sum of a set of check cells
+--   jointSum, checks-sum   the joint sum of a set of cells, and of a set of check cells
 --   belongs-only     two sheets that belong and hold the same data are the same cells
 --   written-data     the written sheet holds its data
+--   fill-belongs     a filled sheet belongs where its check cells sum to what its data cells sum to
 --   Writable         writing is possible: the written sheet belongs, and a belonging sheet is known by its data
 --   writable         a code that meets the conditions is writable
 --   written-only     the written sheet is the only sheet that belongs and holds its data
 --   written-back, written-equal   writing what was read gives the sheet back; equal data give the same sheet
 --
--- Assumes nothing but what it takes as Spans.
+-- Assumes nothing.
 use mathlib.Core.Path.{_≡_, refl, sym, ap, ap₂, _∙_}
 use mathlib.Core.Bool.{Bool, true, false, xor}
 use Prim.Native.Nat.{ℕ, _+_, _*_, _/_, _%_, _^_, _≤_, _<_}
-use native.Mathlib.Nat.{div-lt-iff-lt-mul, mod-lt}
+use native.Mathlib.Nat.{div-lt-iff-lt-mul, mod-lt, zero-div}
 use native.Mathlib.Omega.{arith}
+use lib.Dec.{eqb}
 use Rattle.gf2.specs.Xor.{_⊕_, pick}
 use Rattle.gf2.specs.Sum.{chosenSum}
 use Rattle.gf2.specs.Independence.{Independent}
 use Rattle.gf2.proofs.Xor.{xor-self, xor-back as add-back}
 use Rattle.gf2.proofs.Sum.{sum-equal}
+use Rattle.gf2.proofs.Independence.{spanned-chosen, independent-free}
+use Rattle.gf2.proofs.Span.{full-span}
 use Rattle.finite.specs.Search.{bit, least, numberOf}
 use Rattle.boxcode.specs.Code.{Code, Formed, jointWeight, checkJoint, cellNumber}
 use Rattle.boxcode.specs.Condition.{Conditions, everyone}
@@ -35,13 +39,14 @@ use Rattle.boxcode.proofs.Syndrome.{weight-flip, weight-flat, weight-be
 use Rattle.boxcode.proofs.Check.{check-row, check-column, number-cell, check-listed, check-found, rank-below}
 use Rattle.boxcode.proofs.Fill.{checkCell, SameData, cell-data, same-cells, fill-check, data-fill, width-pos}
 
--- the one fact of algebra that is still to come
-abbrev pub Spans : Type 0
-Spans = (n : ℕ) (f : ℕ → ℕ) → n ≤ 64 → ((k : ℕ) → k < n → f k < 2 ^ n) → Independent n everyone f → (x : ℕ) → x < 2 ^ n
+spans-all : (n : ℕ) (f : ℕ → ℕ) → n ≤ 64 → ((k : ℕ) → k < n → f k < 2 ^ n) → Independent n everyone f → (x : ℕ) → x < 2 ^ n
     → (m : ℕ → Bool) × (chosenSum n m f ≡ x)
+spans-all n f few below h x l =
+    let w = spanned-chosen n everyone f x (full-span n f few below (independent-free n everyone f h) x l) in
+    (w .0, w .2)
 
 -- the joint sum of a set of cells
-abbrev jointSum : Code → Cells → ℕ
+abbrev pub jointSum : Code → Cells → ℕ
 jointSum c s = weightSum (c .n1) (c .n2) (jointWeight c) s
 
 pub belongs-true : (c : Code) (s : Cells) → belongs c s ≡ true → Belongs c s
@@ -53,6 +58,10 @@ belongs-true c s t =
 pub true-belongs : (c : Code) (s : Cells) → Belongs c s → belongs c s ≡ true
 unfolding belongs
 true-belongs c s b = equal-both (rowSyndrome c s) (columnSyndrome c s) 0 0 (b .row-zero) (b .column-zero)
+
+bit-none : (k : ℕ) → bit 0 k ≡ false
+unfolding bit
+bit-none k = ap (λ (x : ℕ). eqb (x % 2) 1) (zero-div (2 ^ k))
 
 module _ (c : Code) (F : Formed c) where
   -- of a set that has check cells only
@@ -101,9 +110,36 @@ module _ (c : Code) (F : Formed c) where
   unfolding written
   written-data x = data-fill c F x (least (2 ^ (c .rv + c .rh)) (λ y. belongs c (fill c x y)))
 
-  -- some digits in the check cells make both sums 0
-  written-exists : Spans → Conditions c → (x : Bits) → (y : ℕ) × (y < 2 ^ (c .rv + c .rh)) × Belongs c (fill c x y)
-  written-exists spans K x = (y, number-below r mask, joint-belongs c F (fill c x y) none)
+  -- digits in the check cells whose joint entries sum to the joint sum of the data cells make both sums 0
+  pub fill-belongs : (x : Bits) (y : ℕ) → chosenSum (c .rv + c .rh) (bit y) (checkJoint c) ≡ jointSum c (fill c x 0) → Belongs c (fill c x y)
+  fill-belongs x y made = joint-belongs c F (fill c x y) none
+    where
+      v : ℕ
+      v = jointSum c (fill c x 0)
+
+      turned : (k : ℕ) → k < c .rv + c .rh → xor (checkCell c (fill c x y) k) (checkCell c (fill c x 0) k) ≡ bit y k
+      turned k l = ap₂ xor (fill-check c F x y k l) (fill-check c F x 0 k l ∙ bit-none k) ∙ truth.xor-none (bit y k)
+
+      none : jointSum c (fill c x y) ≡ 0
+      none =
+          sym (add-back (jointSum c (fill c x y)) v)
+          ∙ ap (λ (z : ℕ). z ⊕ v)
+          (apart-sum (fill c x y) (fill c x 0) (λ d l. data-fill c F x y d l ∙ sym (data-fill c F x 0 d l))
+          ∙ sum-equal (c .rv + c .rh) (λ k. pick (xor (checkCell c (fill c x y) k) (checkCell c (fill c x 0) k)) (checkJoint c k))
+          (λ k. pick (bit y k) (checkJoint c k)) (λ k l. ap (λ (b : Bool). pick b (checkJoint c k)) (turned k l))
+          ∙ made)
+          ∙ xor-self v
+
+  -- some do
+  written-exists : Conditions c → (x : Bits) → (y : ℕ) × (y < 2 ^ (c .rv + c .rh)) × Belongs c (fill c x y)
+  written-exists K x = (
+    numberOf r (way .0),
+    number-below r (way .0),
+    fill-belongs x (numberOf r (way .0))
+        (sum-equal r (λ k. pick (bit (numberOf r (way .0)) k) (checkJoint c k)) (λ k. pick (way .0 k) (checkJoint c k))
+        (λ k l. ap (λ (b : Bool). pick b (checkJoint c k)) (bit-number r (way .0) k l))
+        ∙ way .1),
+  )
     where
       r : ℕ
       r = c .rv + c .rh
@@ -111,39 +147,16 @@ module _ (c : Code) (F : Formed c) where
       few : c .rv + c .rh ≤ 64
       few = let a : c .rv ≤ 32 = F .rv-most in let b : c .rh ≤ 32 = F .rh-most in omega arith
 
-      v : ℕ
-      v = jointSum c (fill c x 0)
-
-      way : (m : ℕ → Bool) × (chosenSum r m (checkJoint c) ≡ v)
+      way : (m : ℕ → Bool) × (chosenSum r m (checkJoint c) ≡ jointSum c (fill c x 0))
       way =
-          spans r (checkJoint c) few
+          spans-all r (checkJoint c) few
           (λ k l. unfold checkJoint in joint-below c F (c .checkRow k) (c .checkColumn k) (F .check-rows k l) (F .check-columns k l))
-          (K .checks) v (weight-below (c .n1) (c .n2) (jointWeight c) r (fill c x 0) (joint-below c F))
+          (K .checks) (jointSum c (fill c x 0)) (weight-below (c .n1) (c .n2) (jointWeight c) r (fill c x 0) (joint-below c F))
 
-      mask : ℕ → Bool
-      mask k = xor (way .0 k) (bit 0 k)
-
-      y : ℕ
-      y = numberOf r mask
-
-      turned : (k : ℕ) → k < r → xor (checkCell c (fill c x y) k) (checkCell c (fill c x 0) k) ≡ way .0 k
-      turned k l =
-          ap₂ xor (fill-check c F x y k l ∙ bit-number r mask k l) (fill-check c F x 0 k l) ∙ truth.xor-back (way .0 k) (bit 0 k)
-
-      none : jointSum c (fill c x y) ≡ 0
-      none =
-          sym (add-back (jointSum c (fill c x y)) v)
-          ∙ ap (λ (z : ℕ). z ⊕ v)
-          (apart-sum (fill c x y) (fill c x 0) (λ d l. data-fill c F x y d l ∙ sym (data-fill c F x 0 d l))
-          ∙ sum-equal r (λ k. pick (xor (checkCell c (fill c x y) k) (checkCell c (fill c x 0) k)) (checkJoint c k))
-          (λ k. pick (way .0 k) (checkJoint c k)) (λ k l. ap (λ (b : Bool). pick b (checkJoint c k)) (turned k l))
-          ∙ way .1)
-          ∙ xor-self v
-
-  written-belongs : Spans → Conditions c → (x : Bits) → Belongs c (written c x)
+  written-belongs : Conditions c → (x : Bits) → Belongs c (written c x)
   unfolding written
-  written-belongs spans K x =
-      let w = written-exists spans K x in
+  written-belongs K x =
+      let w = written-exists K x in
       let l : w .0 < 2 ^ (c .rv + c .rh) = w .1 in
       let p : ℕ → Bool = λ y. belongs c (fill c x y) in
       let m : least (2 ^ (c .rv + c .rh)) p ≤ w .0 = least-most (2 ^ (c .rv + c .rh)) p (w .0) (true-belongs c (fill c x (w .0)) (w .2)) in
@@ -154,8 +167,8 @@ pub record Writable (c : Code) : Type 0 where
   pub belongs : (x : Bits) → Belongs c (written c x)
   pub only : (s s' : Cells) → Belongs c s → Belongs c s' → SameData c s s' → SameCells c s s'
 
-pub writable : Spans → (c : Code) → Formed c → Conditions c → Writable c
-writable spans c F K = record { belongs = written-belongs c F spans K; only = belongs-only c F K }
+pub writable : (c : Code) → Formed c → Conditions c → Writable c
+writable c F K = record { belongs = written-belongs c F K; only = belongs-only c F K }
 
 pub written-only : (c : Code) → Formed c → Writable c → (x : Bits) (s : Cells) → Belongs c s → ((d : ℕ) → d < dataSize c → dataOf c s d ≡ x d)
     → SameCells c s (written c x)

@@ -1,0 +1,155 @@
+-- The checks of a call pass exactly where the plan is accepted and the buffers are right.
+--
+--   stops, goes-on           the answer of a sequence of checks: the first part refuses; it passes, and the rest answers
+--   else-joined              checks in sequence may be taken together
+--   write-joined, read-joined   the checks before writing and before reading, as the shared ones and check 13
+--   cells-most, size-most, bytes-most   a sheet has at most 512 × 698 cells, and so few data bits; 88 bytes a row
+--   length-right, right-length, unused-right, right-unused   each check passes exactly where its buffer is right
+--   row-sheet                the bytes of one row
+--   Lengths                  what holds where checks 1 to 12 pass
+--   length-zero, lengths-pass   checks 1 to 12 pass exactly there
+--   write-zero, writes-pass  the checks before writing pass exactly where Writes holds
+--   read-zero, reads-pass    the checks before reading pass exactly where Reads holds
+--
+-- Assumes nothing.
+use mathlib.Core.Path.{_≡_, refl, sym, ap, _∙_}
+use mathlib.Core.Bool.{Bool, true, false, not}
+use mathlib.Core.List.{List}
+use Prim.Native.Nat.{ℕ, suc, _+_, _-_, _*_, _≤_, _<_}
+use native.Mathlib.Nat.{mul-le-mul, one-mul}
+use native.Mathlib.Omega.{arith}
+use borrow.Author.Tests.{eq-eqb, eqb-true, le-ltb, ltb-false, not-false}
+use lib.Dec.{eqb, ltb}
+use lib.ListN.{length}
+use Rattle.finite.proofs.Search.{least-le}
+use Rattle.layout.specs.Cells.{rowBytes, sheetBytes, firstUnused, RightForm}
+use Rattle.layout.proofs.Form.{form-unused, unused-form}
+use Rattle.boxcode.specs.Code.{Code, Formed}
+use Rattle.boxcode.specs.Check.{dataSize}
+use Rattle.plan.specs.declared.verdict.Verdict.{Verdict}
+use Rattle.plan.specs.Verdict.{accepted, refusal, verdictIf, _orElse_}
+use Rattle.plan.specs.Bytes.{codeOf}
+use Rattle.plan.proofs.Sequence.{else-first, else-second, else-zero, if-zero}
+use Rattle.accept.specs.Verdict.{planVerdict, Accepted}
+use Rattle.accept.proofs.Acceptance.{accepted-plan, plan-accepted}
+use Rattle.buffers.specs.Buffers.{lengthVerdict, unusedVerdict, lengthChecks, writeChecks, readChecks, Writes, Reads}
+
+pub stops : (u v : Verdict) {x : Verdict} → x ≡ u → (x .number ≡ 0 → ⊥) → x ≡ u orElse v
+stops u v {x} e h = e ∙ sym (else-first u v (λ z. h (ap (λ (y : Verdict). y .number) e ∙ z)))
+
+pub goes-on : (u v : Verdict) {x : Verdict} → u .number ≡ 0 → x ≡ v → x ≡ u orElse v
+goes-on u v {x} p e = e ∙ sym (else-second u v p)
+
+pub else-joined : (u v w : Verdict) → (u orElse v) orElse w ≡ u orElse (v orElse w)
+unfolding _orElse_
+else-joined u v w = go (eqb (u .number) 0) refl
+  where
+    go : (t : Bool) → eqb (u .number) 0 ≡ t → (u orElse v) orElse w ≡ u orElse (v orElse w)
+    go true e = rw e
+    go false e = rw (e, e)
+
+module _ (plan : List ℕ) where
+  pub cells-most : Formed (codeOf plan) → codeOf plan .n1 * codeOf plan .n2 ≤ 357376
+  cells-most F = mul-le-mul (F .n1-most) (F .n2-most)
+
+  pub size-most : Formed (codeOf plan) → dataSize (codeOf plan) ≤ 357376
+  unfolding dataSize
+  size-most F = let m = cells-most F in omega arith
+
+  pub bytes-most : (m : ℕ) → Formed (codeOf plan) → m ≡ rowBytes (codeOf plan .n2) → codeOf plan .n1 * m ≤ 45056
+  unfolding rowBytes
+  bytes-most m F e = let w : m ≤ 88 = omega (arith, F .n2-most) in mul-le-mul (F .n1-most) w
+
+  pub write-joined : (bits sheet : List ℕ) → writeChecks plan bits sheet ≡ lengthChecks plan sheet bits orElse unusedVerdict 1 (dataSize (codeOf plan)) bits
+  unfolding writeChecks lengthChecks
+  write-joined bits sheet = sym (else-joined _ _ _ ∙ ap (λ (v : Verdict). planVerdict plan orElse v) (else-joined _ _ _))
+
+  pub read-joined : (sheet bits : List ℕ)
+      → readChecks plan sheet bits ≡ lengthChecks plan sheet bits orElse unusedVerdict (codeOf plan .n1) (codeOf plan .n2) sheet
+  unfolding readChecks lengthChecks
+  read-joined sheet bits = sym (else-joined _ _ _ ∙ ap (λ (v : Verdict). planVerdict plan orElse v) (else-joined _ _ _))
+
+-- ---- each check
+
+pub length-right : (number : ℕ) (s : List ℕ) (size : ℕ) → lengthVerdict (suc number) s size .number ≡ 0 → length s ≡ size
+unfolding lengthVerdict
+length-right number s size e = eqb-true (length s) size (not-false _ (if-zero (not (eqb (length s) size)) number 0 0 e))
+
+pub right-length : (number : ℕ) (s : List ℕ) (size : ℕ) → length s ≡ size → lengthVerdict number s size ≡ accepted
+unfolding lengthVerdict
+right-length number s size e = rw (eq-eqb (length s) size e)
+
+pub unused-right : (n1 n2 : ℕ) (s : List ℕ) → length s ≡ sheetBytes n1 n2 → unusedVerdict n1 n2 s .number ≡ 0 → RightForm n1 n2 s
+unfolding unusedVerdict firstUnused
+unused-right n1 n2 s l e =
+    let u : sheetBytes n1 n2 ≤ firstUnused n1 n2 s = ltb-false (firstUnused n1 n2 s) (sheetBytes n1 n2) (if-zero (ltb (firstUnused n1 n2 s) (sheetBytes n1 n2)) 12 (firstUnused n1 n2 s) 0 e) in
+    let m : firstUnused n1 n2 s ≤ sheetBytes n1 n2 = least-le (sheetBytes n1 n2) _ in
+    unused-form n1 n2 s l (omega arith)
+
+pub right-unused : (n1 n2 : ℕ) (s : List ℕ) → RightForm n1 n2 s → unusedVerdict n1 n2 s ≡ accepted
+unfolding unusedVerdict
+right-unused n1 n2 s f = rw (form-unused n1 n2 s f, le-ltb (sheetBytes n1 n2) (sheetBytes n1 n2) (omega arith))
+
+-- ---- the checks of a call
+
+pub row-sheet : (k : ℕ) → sheetBytes 1 k ≡ rowBytes k
+unfolding sheetBytes
+row-sheet k = one-mul (rowBytes k)
+
+pub record Lengths (plan sheet bits : List ℕ) : Type 0 where
+  pub accepted : Accepted plan
+  pub sheet-size : length sheet ≡ sheetBytes (codeOf plan .n1) (codeOf plan .n2)
+  pub bits-size : length bits ≡ rowBytes (dataSize (codeOf plan))
+
+number-of : {v : Verdict} → v ≡ accepted → v .number ≡ 0
+number-of e = ap (λ (v : Verdict). v .number) e
+
+pub length-zero : (plan sheet bits : List ℕ) → lengthChecks plan sheet bits .number ≡ 0 → Lengths plan sheet bits
+unfolding lengthChecks
+length-zero plan sheet bits e =
+    let p = else-zero (planVerdict plan) _ e in
+    let l = else-zero (lengthVerdict 11 sheet (sheetBytes (codeOf plan .n1) (codeOf plan .n2))) _ (p .1) in
+    record { accepted = accepted-plan plan (p .0); sheet-size = length-right 10 sheet _ (l .0); bits-size = length-right 11 bits _ (l .1) }
+
+pub lengths-pass : (plan sheet bits : List ℕ) → Lengths plan sheet bits → lengthChecks plan sheet bits ≡ accepted
+unfolding lengthChecks
+lengths-pass plan sheet bits L =
+    else-second (planVerdict plan) _ (number-of (plan-accepted plan (L .accepted)))
+    ∙ else-second (lengthVerdict 11 sheet _) _ (number-of (right-length 11 sheet _ (L .sheet-size)))
+    ∙ right-length 12 bits _ (L .bits-size)
+
+pub write-zero : (plan bits sheet : List ℕ) → writeChecks plan bits sheet .number ≡ 0 → Writes plan bits sheet
+write-zero plan bits sheet e =
+    let p = else-zero (lengthChecks plan sheet bits) _ (ap (λ (v : Verdict). v .number) (sym (write-joined plan bits sheet)) ∙ e) in
+    let L = length-zero plan sheet bits (p .0) in
+    record {
+      accepted = L .accepted;
+      sheet-size = L .sheet-size;
+      bits-size = L .bits-size;
+      form = unused-right 1 (dataSize (codeOf plan)) bits (L .bits-size ∙ sym (row-sheet (dataSize (codeOf plan)))) (p .1);
+    }
+
+pub writes-pass : (plan bits sheet : List ℕ) → Writes plan bits sheet → writeChecks plan bits sheet ≡ accepted
+writes-pass plan bits sheet w =
+    write-joined plan bits sheet
+    ∙ else-second (lengthChecks plan sheet bits) _
+    (number-of (lengths-pass plan sheet bits (record { accepted = w .accepted; sheet-size = w .sheet-size; bits-size = w .bits-size })))
+    ∙ right-unused 1 (dataSize (codeOf plan)) bits (w .form)
+
+pub read-zero : (plan sheet bits : List ℕ) → readChecks plan sheet bits .number ≡ 0 → Reads plan sheet bits
+read-zero plan sheet bits e =
+    let p = else-zero (lengthChecks plan sheet bits) _ (ap (λ (v : Verdict). v .number) (sym (read-joined plan sheet bits)) ∙ e) in
+    let L = length-zero plan sheet bits (p .0) in
+    record {
+      accepted = L .accepted;
+      sheet-size = L .sheet-size;
+      bits-size = L .bits-size;
+      form = unused-right (codeOf plan .n1) (codeOf plan .n2) sheet (L .sheet-size) (p .1);
+    }
+
+pub reads-pass : (plan sheet bits : List ℕ) → Reads plan sheet bits → readChecks plan sheet bits ≡ accepted
+reads-pass plan sheet bits r =
+    read-joined plan sheet bits
+    ∙ else-second (lengthChecks plan sheet bits) _
+    (number-of (lengths-pass plan sheet bits (record { accepted = r .accepted; sheet-size = r .sheet-size; bits-size = r .bits-size })))
+    ∙ right-unused (codeOf plan .n1) (codeOf plan .n2) sheet (r .form)

@@ -1,0 +1,58 @@
+-- `buffers::lent::write_checks` meets its contract: unused bits are looked for in a buffer of the right length. Assumes nothing.
+use mathlib.Core.Path.{_≡_, refl, sym, ap, _∙_}
+use native.Mathlib.Omega.{arith}
+use Rattle.boxcode.specs.Check.{dataSize}
+use Rattle.boxcode.proofs.Check.{checks-fit}
+use Rattle.plan.specs.declared.verdict.Verdict.{Verdict}
+use Rattle.plan.specs.Bytes.{codeOf}
+use Rattle.buffers.specs.Buffers.{lengthChecks, unusedVerdict}
+use Rattle.buffers.proofs.Passing.{stops, goes-on, size-most, row-sheet, Lengths, length-zero, write-joined}
+use borrow.Author.Needs.{needs}
+use Rattle.buffers.proofs.lent.write_checks.Statement.{statement}
+use Rattle.buffers.proofs.lent.write_checks.Tie as tie
+
+-- checks 1 to 12 passed
+passes : (c : tie.Else1) → lengthChecks (c .before .before .before .before .before .before .args .plan .now) (c .before .before .before .before .before .before .args .sheet .now) (c .before .before .before .before .before .before .args .bits .now) .number ≡ 0
+passes c = ap (λ (v : Verdict). v .number) (sym (c .before .before .length-checks .ensures)) ∙ c .if1 .left
+
+ready : (c : tie.Else1) → Lengths (c .before .before .before .before .before .before .args .plan .now) (c .before .before .before .before .before .before .args .sheet .now) (c .before .before .before .before .before .before .args .bits .now)
+ready c = length-zero _ _ _ (passes c)
+
+length-checks-requires : tie.Need-length-checks-requires
+length-checks-requires c κs = search needs
+
+returns : tie.Need-returns
+returns c = stops _ _ (c .before .before .length-checks .ensures) (c .if1 .taken) ∙ sym (write-joined _ _ _)
+
+read-requires : tie.Need-read-requires
+read-requires c κs = let L = ready c in omega (arith, L .accepted .framed .long)
+
+data-size-requires : tie.Need-data-size-requires
+unfolding codeOf
+data-size-requires c κs =
+    let A = ready (c .before) .accepted in
+    rw (c .read .ensures) (A .framed .small, checks-fit _ (A .formed))
+
+unused-verdict-requires : tie.Need-unused-verdict-requires
+unfolding codeOf dataSize
+unused-verdict-requires c κs =
+    let L = ready (c .before .before) in
+    let m = size-most _ (L .accepted .formed) in
+    rw (c .data-size .ensures, c .before .read .ensures) (omega arith, L .bits-size ∙ sym (row-sheet _))
+
+returns-2 : tie.Need-returns-2
+unfolding codeOf dataSize
+returns-2 c =
+    goes-on _ _ (passes (c .before .before .before)) (c .unused-verdict .ensures ∙ rw (c .before .data-size .ensures, c .before .before .read .ensures))
+    ∙ sym (write-joined _ _ _)
+
+pub write-checks-spec : {M : Type 1} → statement M
+write-checks-spec =
+    tie.close
+    (tie.spec
+    length-checks-requires
+    returns
+    read-requires
+    data-size-requires
+    unused-verdict-requires
+    returns-2)

@@ -1,0 +1,2 @@
+-- The checks of the lent buffers, after those of the plan.
+pub mod Buffers

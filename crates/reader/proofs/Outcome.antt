@@ -1,0 +1,114 @@
+-- The parts of the read of one sheet.
+--
+--   read-refuses        where checks 1 to 13 refuse, so does the read
+--   read-mends          where they pass, check 14 and the mend decide
+--   mend-none, mend-some   no burst: 14, and nothing is changed; a burst: the mend
+--   burst-on            the rectangle of a burst that was found lies on the sheet
+--   burst-sheet, burst-bits, burst-report   turning it over gives the mended sheet; the data of those bytes; its report
+--   burst-taken         all of a read that succeeds
+--   usable              an accepted plan can be mended under
+--
+-- Assumes nothing.
+use mathlib.Core.Path.{_≡_, refl, sym, ap, _∙_}
+use mathlib.Core.Bool.{Bool, true, false, xor, not, cond}
+use mathlib.Core.List.{List}
+use Prim.Native.Nat.{ℕ}
+use borrow.Author.Tests.{ne-eqb}
+use lib.Dec.{eqb}
+use Rattle.layout.specs.Cells.{RightForm, cellOf, bytesOf}
+use Rattle.layout.proofs.Form.{bytes-cell, bytes-equal}
+use Rattle.boxcode.specs.Code.{Code, Formed}
+use Rattle.boxcode.specs.Syndrome.{flip, rowSyndrome, columnSyndrome}
+use Rattle.boxcode.specs.Burst.{boxCells, hasBurst}
+use Rattle.boxcode.specs.Check.{dataSize, dataOf}
+use Rattle.boxcode.specs.Reader.{mendable, change, mended}
+use Rattle.boxcode.proofs.Fill.{data-cells}
+use Rattle.plan.specs.declared.header.Header.{Header}
+use Rattle.plan.specs.declared.verdict.Verdict.{Verdict}
+use Rattle.plan.specs.Verdict.{accepted, refusal, verdictIf}
+use Rattle.plan.specs.Header.{headerOf}
+use Rattle.plan.specs.Bytes.{codeOf}
+use Rattle.plan.proofs.Sequence.{else-first, else-second}
+use Rattle.accept.specs.Verdict.{Accepted}
+use Rattle.buffers.specs.Buffers.{readChecks}
+use Rattle.mend.specs.declared.report.Report.{Report}
+use Rattle.mend.specs.Usable.{Usable}
+use Rattle.mend.specs.Found.{IsBurst}
+use Rattle.mend.specs.Report.{boxReport, reportAs}
+use Rattle.mend.proofs.Rectangle.{found-report}
+use Rattle.reader.specs.Turn.{Rectangle, boxTurned}
+use Rattle.reader.specs.Read.{Outcome, readVerdict, sheetRead, bitsRead, reportRead, refused, taken, mendOutcome, readOutcome}
+use Rattle.reader.proofs.Turned.{box-turned}
+
+-- ---- which checks decide
+
+-- check 14 as a verdict and as a choice
+decided : (m : Bool) (o : Outcome) (sheet bits : List ℕ) → cond m o (refused (refusal 14 0 0) sheet bits)
+    ≡ cond (eqb (verdictIf (not m) (refusal 14 0 0) .number) 0) o (refused (verdictIf (not m) (refusal 14 0 0)) sheet bits)
+decided true o sheet bits = refl
+decided false o sheet bits = refl
+
+module _ (plan sheet bits : List ℕ) where
+  pub read-refuses : (readChecks plan sheet bits .number ≡ 0 → ⊥) → refused (readChecks plan sheet bits) sheet bits ≡ readOutcome plan sheet bits
+  unfolding readOutcome readVerdict
+  read-refuses h = rw (else-first (readChecks plan sheet bits) _ h, ne-eqb (readChecks plan sheet bits .number) 0 h)
+
+  pub read-mends : readChecks plan sheet bits .number ≡ 0 → mendOutcome (codeOf plan) sheet bits ≡ readOutcome plan sheet bits
+  unfolding readOutcome readVerdict mendOutcome
+  read-mends e =
+      rw (else-second (readChecks plan sheet bits) (verdictIf (not (mendable (codeOf plan) (cellOf (codeOf plan .n2) sheet))) (refusal 14 0 0)) e)
+      (decided (mendable (codeOf plan) (cellOf (codeOf plan .n2) sheet)) (taken (codeOf plan) sheet) sheet bits)
+
+module _ (c : Code) (sheet bits : List ℕ) where
+  pub mend-none : hasBurst c (rowSyndrome c (cellOf (c .n2) sheet)) (columnSyndrome c (cellOf (c .n2) sheet)) ≡ false
+      → refused (refusal 14 0 0) sheet bits ≡ mendOutcome c sheet bits
+  unfolding mendOutcome mendable
+  mend-none e = rw e
+
+  pub mend-some : hasBurst c (rowSyndrome c (cellOf (c .n2) sheet)) (columnSyndrome c (cellOf (c .n2) sheet)) ≡ true
+      → taken c sheet ≡ mendOutcome c sheet bits
+  unfolding mendOutcome mendable
+  mend-some e = rw e
+
+-- ---- the burst that was found
+
+pub burst-bits : (c : Code) → Formed c → (s t : List ℕ) → t ≡ sheetRead c s
+    → bytesOf 1 (dataSize c) (λ i d. dataOf c (cellOf (c .n2) t) d) ≡ bitsRead c s
+unfolding sheetRead bitsRead
+burst-bits c F s t e =
+    bytes-equal 1 (dataSize c) (λ i d. dataOf c (cellOf (c .n2) t) d) (λ i d. dataOf c (mended c (cellOf (c .n2) s)) d)
+    (λ i d li ld.
+    ap (λ (y : List ℕ). dataOf c (cellOf (c .n2) y) d) e
+    ∙ data-cells c F (cellOf (c .n2) (bytesOf (c .n1) (c .n2) (mended c (cellOf (c .n2) s)))) (mended c (cellOf (c .n2) s))
+    (λ a b la lb. bytes-cell (c .n1) (c .n2) (mended c (cellOf (c .n2) s)) a b la lb) d ld)
+
+module _ (c : Code) (F : Formed c) (s : List ℕ) (f : RightForm (c .n1) (c .n2) s) (top left x : ℕ)
+    (b : IsBurst c (rowSyndrome c (cellOf (c .n2) s)) (columnSyndrome c (cellOf (c .n2) s)) top left x) where
+  pub burst-on : Rectangle (c .n1) (c .n2) top left (c .b1) (c .b2)
+  burst-on = record { n1-most = F .n1-most; n2-most = F .n2-most; rows-on = b .rows-on; columns-on = b .columns-on }
+
+  pub burst-sheet : boxTurned (c .n2) s top left (c .b1) (c .b2) x ≡ sheetRead c s
+  unfolding sheetRead mended change
+  burst-sheet =
+      box-turned top left (c .b1) (c .b2) x (F .b2-pos) (c .n1) (c .n2) s f burst-on
+      ∙ bytes-equal (c .n1) (c .n2) (flip (cellOf (c .n2) s) (boxCells top left (c .b1) (c .b2) x)) (mended c (cellOf (c .n2) s))
+      (λ i j li lj. ap (xor (cellOf (c .n2) s i j)) (b .cells i j))
+
+  pub burst-report : reportAs (boxReport top left (c .b1) (c .b2) x) ≡ reportRead c s
+  unfolding reportRead change
+  burst-report = ap reportAs (sym (found-report c F _ _ top left x b))
+
+  pub burst-taken : (v : Verdict) (r : Report) (t u : List ℕ) → v ≡ accepted → r ≡ reportAs (boxReport top left (c .b1) (c .b2) x)
+      → t ≡ boxTurned (c .n2) s top left (c .b1) (c .b2) x → u ≡ bytesOf 1 (dataSize c) (λ i d. dataOf c (cellOf (c .n2) t) d)
+      → record { verdict = v; report = r; sheet = t; bits = u } ≡ taken c s
+  burst-taken v r t u ev er et eu =
+      let es = et ∙ burst-sheet in
+      let e = er ∙ burst-report in
+      let eb = eu ∙ burst-bits c F s t es in
+      λ i. record { verdict = ev i; report = e i; sheet = es i; bits = eb i }
+
+-- ---- an accepted plan
+
+pub usable : (plan : List ℕ) (h : Header) → h ≡ headerOf plan → Accepted plan → Usable plan h
+unfolding codeOf
+usable plan h e A = rw e (record { framed = A .framed; formed = A .formed; conditions = A .conditions })

@@ -1,0 +1,214 @@
+-- A burst turned over, digit by digit, turns over the cells of its pattern number and no others.
+--
+--   digit-row, digit-column    the cell of a digit lies on the sheet
+--   digits-length              the number of bytes stays
+--   digits-form, digits-cell   after the first n digits: the right form is kept, and the cells of those digits are turned over
+--   box-turned                 after all digits the bytes are those of the sheet with the pattern's cells turned over
+--   digits-next                one turn of the loop
+--
+-- Assumes nothing.
+use mathlib.Core.Path.{_≡_, refl, sym, ap, ap₂, _∙_}
+use mathlib.Core.Bool.{Bool, true, false, xor, _&&_}
+use mathlib.Core.List.{List}
+use Prim.Native.Nat.{ℕ, zero, suc, _+_, _-_, _*_, _/_, _%_, _≤_, _<_}
+use native.Mathlib.Nat.{div-lt-iff-lt-mul, mod-lt, div-add-mod'}
+use native.Mathlib.Numerals.{add-one}
+use native.Mathlib.Decide.{ℕ-discrete, decLt}
+use native.Mathlib.Omega.{arith}
+use borrow.Author.Tests.{eq-eqb, ne-eqb, lt-ltb, le-ltb}
+use lib.Dec.{eqb, ltb}
+use lib.ListN.{length, length-set}
+use lib.Arith.{digits-lt, digits-div, digits-mod}
+use Rattle.finite.specs.Search.{bit}
+use Rattle.finite.proofs.Truth.{Truth, is-true, is-false, true-or-false, xor-none, in-within}
+use Rattle.layout.specs.Cells.{RightForm, cellOf, bytesOf, turned, turnedIf}
+use Rattle.layout.proofs.Form.{same-bytes, bytes-form, bytes-cell}
+use Rattle.layout.proofs.Turned.{turned-form, turned-cell}
+use Rattle.boxcode.specs.Syndrome.{Cells, flip}
+use Rattle.boxcode.specs.Burst.{boxCells}
+use Rattle.boxcode.proofs.Trial.{box-inside}
+use Rattle.reader.specs.Turn.{Rectangle, digitsTurned, boxTurned}
+
+-- ---- one cell, if it is asked for
+
+if-length : (b : Bool) (n2 : ℕ) (s : List ℕ) (i j : ℕ) → length (turnedIf b n2 s i j) ≡ length s
+unfolding turned
+if-length true n2 s i j = simp length-set
+if-length false n2 s i j = refl
+
+module _ (n1 n2 : ℕ) (s : List ℕ) (f : RightForm n1 n2 s) (i j : ℕ) (li : i < n1) (lj : j < n2) where
+  if-form : (b : Bool) → RightForm n1 n2 (turnedIf b n2 s i j)
+  if-form true = turned-form n1 n2 s f i j li lj
+  if-form false = f
+
+  if-cell : (b : Bool) (a d : ℕ) → a < n1 → d < n2 → cellOf n2 (turnedIf b n2 s i j) a d ≡ xor (cellOf n2 s a d) (b && (eqb i a && eqb j d))
+  if-cell true a d la ld = turned-cell n1 n2 s f i j li lj a d la ld
+  if-cell false a d la ld = sym (xor-none (cellOf n2 s a d))
+
+-- ---- the cell of a digit
+
+module _ (n1 n2 top left b1 b2 : ℕ) (pos : 1 ≤ b2) (R : Rectangle n1 n2 top left b1 b2) where
+  pub digit-row : (k : ℕ) → k < b1 * b2 → top + k / b2 < n1
+  digit-row k l = let q : k / b2 < b1 = div-lt-iff-lt-mul pos .1 l in let r = R .rows-on in omega arith
+
+  pub digit-column : (k : ℕ) → left + k % b2 < n2
+  digit-column k = let q : k % b2 < b2 = mod-lt k pos in let r = R .columns-on in omega arith
+
+-- ---- the number of bytes, and one turn of the loop
+
+pub digits-length : (n2 : ℕ) (s : List ℕ) (top left b2 x n : ℕ) → length (digitsTurned n2 s top left b2 x n) ≡ length s
+unfolding digitsTurned
+digits-length n2 s top left b2 x zero = refl
+digits-length n2 s top left b2 x (suc k) =
+    if-length (bit x k) n2 (digitsTurned n2 s top left b2 x k) (top + k / b2) (left + k % b2) ∙ digits-length n2 s top left b2 x k
+
+pub digits-none : (n2 : ℕ) (s : List ℕ) (top left b2 x : ℕ) → s ≡ digitsTurned n2 s top left b2 x 0
+unfolding digitsTurned
+digits-none n2 s top left b2 x = refl
+
+pub digits-next : (n2 : ℕ) (s t u : List ℕ) (top left b2 x k : ℕ) → t ≡ digitsTurned n2 s top left b2 x k
+    → u ≡ turnedIf (bit x k) n2 t (top + k / b2) (left + k % b2) → u ≡ digitsTurned n2 s top left b2 x (k + 1)
+unfolding digitsTurned
+digits-next n2 s t u top left b2 x k e h =
+    h ∙ ap (λ (y : List ℕ). turnedIf (bit x k) n2 y (top + k / b2) (left + k % b2)) e ∙ ap (digitsTurned n2 s top left b2 x) (sym (add-one k))
+
+-- ---- the cells after the first digits
+
+-- the digit of a cell of the rectangle
+abbrev digitOf : ℕ → ℕ → ℕ → ℕ → ℕ → ℕ
+digitOf top left b2 a d = (a - top) * b2 + (d - left)
+
+xor-late : (p q : Bool) → xor (xor p (q && false)) (q && (true && true)) ≡ xor p (q && true)
+unfolding xor
+xor-late true true = refl
+xor-late true false = refl
+xor-late false true = refl
+xor-late false false = refl
+
+xor-never : (p q r : Bool) → xor (xor p q) (r && false) ≡ xor p q
+unfolding xor
+xor-never true true true = refl
+xor-never true true false = refl
+xor-never true false true = refl
+xor-never true false false = refl
+xor-never false true true = refl
+xor-never false true false = refl
+xor-never false false true = refl
+xor-never false false false = refl
+
+module _ (top left b1 b2 x : ℕ) (pos : 1 ≤ b2) where
+  -- the cells of the first n digits
+  first : ℕ → Cells
+  first n a d = boxCells top left b1 b2 x a d && ltb (digitOf top left b2 a d) n
+
+  -- the cell of digit k
+  module _ (k : ℕ) (l : k < b1 * b2) where
+    own-digit : digitOf top left b2 (top + k / b2) (left + k % b2) ≡ k
+    own-digit =
+        let r : top + k / b2 - top ≡ k / b2 = omega arith in
+        let t : left + k % b2 - left ≡ k % b2 = omega arith in
+        rw (r, t) (div-add-mod' k b2)
+
+    own-box : boxCells top left b1 b2 x (top + k / b2) (left + k % b2) ≡ bit x k
+    unfolding boxCells
+    own-box =
+        let q : k / b2 < b1 = div-lt-iff-lt-mul pos .1 l in
+        let r : k % b2 < b2 = mod-lt k pos in
+        ap₂ _&&_ (in-within top b1 (top + k / b2) (omega arith) (omega arith))
+        (ap₂ _&&_ (in-within left b2 (left + k % b2) (omega arith) (omega arith)) (ap (bit x) own-digit))
+
+    own-before : first k (top + k / b2) (left + k % b2) ≡ (bit x k && false)
+    unfolding first
+    own-before = ap₂ _&&_ own-box (le-ltb _ k (omega (arith, own-digit)))
+
+    own-after : first (suc k) (top + k / b2) (left + k % b2) ≡ (bit x k && true)
+    unfolding first
+    own-after = ap₂ _&&_ own-box (lt-ltb _ (suc k) (omega (arith, own-digit)))
+
+    -- at any other cell nothing changes
+    other : (a d : ℕ) → (top + k / b2 ≡ a → left + k % b2 ≡ d → ⊥) → first k a d ≡ first (suc k) a d
+    unfolding first
+    other a d h = go (true-or-false (boxCells top left b1 b2 x a d))
+      where
+        go : Truth (boxCells top left b1 b2 x a d) → first k a d ≡ first (suc k) a d
+        go (is-false f) = rw f
+        go (is-true t) =
+            let n = box-inside top left b1 b2 x in
+            let rf : top ≤ a = n .row-from a d t in
+            let cf : left ≤ d = n .column-from a d t in
+            let ct : d < left + b2 = n .column-to a d t in
+            let lr : d - left < b2 = omega arith in
+            let qr : digitOf top left b2 a d / b2 ≡ a - top = digits-div (a - top) lr in
+            let qc : digitOf top left b2 a d % b2 ≡ d - left = digits-mod (a - top) lr in
+            rw t (side (digitOf top left b2 a d) (λ e.
+            let er : k / b2 ≡ a - top = ap (λ (y : ℕ). y / b2) (sym e) ∙ qr in
+            let ec : k % b2 ≡ d - left = ap (λ (y : ℕ). y % b2) (sym e) ∙ qc in
+            h (omega arith) (omega arith)))
+          where
+            side : (q : ℕ) → (q ≡ k → ⊥) → ltb q k ≡ ltb q (suc k)
+            side q ne = pick (decLt q k)
+              where
+                pick : Dec (q < k) → ltb q k ≡ ltb q (suc k)
+                pick (yes w) = lt-ltb q k w ∙ sym (lt-ltb q (suc k) (omega arith))
+                pick (no w) = le-ltb q k (omega arith) ∙ sym (le-ltb q (suc k) (omega arith))
+
+    step : (p : Bool) (a d : ℕ) → xor (xor p (first k a d)) (bit x k && (eqb (top + k / b2) a && eqb (left + k % b2) d)) ≡ xor p (first (suc k) a d)
+    step p a d = go (ℕ-discrete (top + k / b2) a) (ℕ-discrete (left + k % b2) d)
+      where
+        go : Dec (top + k / b2 ≡ a) → Dec (left + k % b2 ≡ d)
+            → xor (xor p (first k a d)) (bit x k && (eqb (top + k / b2) a && eqb (left + k % b2) d)) ≡ xor p (first (suc k) a d)
+        go (yes r) (yes t) = rw (← r, ← t, eq-eqb _ _ refl, eq-eqb _ _ refl, own-before, own-after) (xor-late p (bit x k))
+        go (yes r) (no t) = rw (eq-eqb _ _ r, ne-eqb _ _ t, other a d (λ _ e. t e)) (xor-never p (first (suc k) a d) (bit x k))
+        go (no r) (yes t) = rw (ne-eqb _ _ r, other a d (λ e _. r e)) (xor-never p (first (suc k) a d) (bit x k))
+        go (no r) (no t) = rw (ne-eqb _ _ r, other a d (λ e _. r e)) (xor-never p (first (suc k) a d) (bit x k))
+
+  none : (a d : ℕ) → first 0 a d ≡ false
+  unfolding first
+  none a d = go (boxCells top left b1 b2 x a d)
+    where
+      go : (b : Bool) → (b && ltb (digitOf top left b2 a d) 0) ≡ false
+      go true = le-ltb (digitOf top left b2 a d) 0 (omega arith)
+      go false = refl
+
+  all : (a d : ℕ) → first (b1 * b2) a d ≡ boxCells top left b1 b2 x a d
+  unfolding first
+  all a d = go (true-or-false (boxCells top left b1 b2 x a d))
+    where
+      go : Truth (boxCells top left b1 b2 x a d) → first (b1 * b2) a d ≡ boxCells top left b1 b2 x a d
+      go (is-false f) = rw f
+      go (is-true t) =
+          let n = box-inside top left b1 b2 x in
+          let rf : top ≤ a = n .row-from a d t in
+          let rt : a < top + b1 = n .row-to a d t in
+          let cf : left ≤ d = n .column-from a d t in
+          let ct : d < left + b2 = n .column-to a d t in
+          let lr : a - top < b1 = omega arith in
+          let lc : d - left < b2 = omega arith in
+          rw t (lt-ltb _ (b1 * b2) (digits-lt lr lc))
+
+  module _ (n1 n2 : ℕ) (s : List ℕ) (f : RightForm n1 n2 s) (R : Rectangle n1 n2 top left b1 b2) where
+    pub digits-form : (n : ℕ) → n ≤ b1 * b2 → RightForm n1 n2 (digitsTurned n2 s top left b2 x n)
+    unfolding digitsTurned
+    digits-form zero l = f
+    digits-form (suc k) l =
+        if-form n1 n2 (digitsTurned n2 s top left b2 x k) (digits-form k (omega arith)) (top + k / b2) (left + k % b2)
+        (digit-row n1 n2 top left b1 b2 pos R k l) (digit-column n1 n2 top left b1 b2 pos R k) (bit x k)
+
+    digits-cell : (n : ℕ) → n ≤ b1 * b2 → (a d : ℕ) → a < n1 → d < n2 → cellOf n2 (digitsTurned n2 s top left b2 x n) a d ≡ xor (cellOf n2 s a d) (first n a d)
+    unfolding digitsTurned
+    digits-cell zero l a d la ld = sym (xor-none (cellOf n2 s a d)) ∙ ap (xor (cellOf n2 s a d)) (sym (none a d))
+    digits-cell (suc k) l a d la ld =
+        if-cell n1 n2 (digitsTurned n2 s top left b2 x k) (digits-form k (omega arith)) (top + k / b2) (left + k % b2)
+        (digit-row n1 n2 top left b1 b2 pos R k l) (digit-column n1 n2 top left b1 b2 pos R k) (bit x k) a d la ld
+        ∙ ap (λ (y : Bool). xor y (bit x k && (eqb (top + k / b2) a && eqb (left + k % b2) d))) (digits-cell k (omega arith) a d la ld)
+        ∙ step k l (cellOf n2 s a d) a d
+
+    pub box-turned : boxTurned n2 s top left b1 b2 x ≡ bytesOf n1 n2 (flip (cellOf n2 s) (boxCells top left b1 b2 x))
+    unfolding boxTurned
+    box-turned =
+        same-bytes n1 n2 (digitsTurned n2 s top left b2 x (b1 * b2)) (bytesOf n1 n2 (flip (cellOf n2 s) (boxCells top left b1 b2 x)))
+        (digits-form (b1 * b2) (omega arith)) (bytes-form n1 n2 (flip (cellOf n2 s) (boxCells top left b1 b2 x)))
+        (λ a d la ld.
+        digits-cell (b1 * b2) (omega arith) a d la ld
+        ∙ ap (xor (cellOf n2 s a d)) (all a d)
+        ∙ sym (bytes-cell n1 n2 (flip (cellOf n2 s) (boxCells top left b1 b2 x)) a d la ld))

@@ -1,0 +1,77 @@
+-- `reader::read::read` meets its contract: what writes is reached only where checks 1 to 13 pass. Assumes nothing.
+use mathlib.Core.Path.{_≡_, refl, sym, ap, _∙_}
+use native.Mathlib.Omega.{arith}
+use Rattle.plan.specs.declared.header.Header.{Header}
+use Rattle.plan.specs.declared.verdict.Verdict.{Verdict}
+use Rattle.plan.specs.Bytes.{codeOf, codeWith}
+use Rattle.buffers.specs.Buffers.{readChecks, Reads}
+use Rattle.buffers.proofs.Passing.{read-zero}
+use Rattle.reader.specs.Read.{mendOutcome}
+use Rattle.reader.proofs.Outcome.{read-refuses, read-mends, usable}
+use borrow.Author.Needs.{needs}
+use Rattle.reader.proofs.read.read.Statement.{statement}
+use Rattle.reader.proofs.read.read.Tie as tie
+
+-- checks 1 to 13 passed
+passes : (c : tie.Else1) → readChecks (c .before .before .before .before .before .before .before .before .args .plan .now) (c .before .before .before .before .before .before .before .before .args .sheet .now) (c .before .before .before .before .before .before .before .before .args .bits .now) .number ≡ 0
+passes c = ap (λ (v : Verdict). v .number) (sym (c .before .before .read-checks .ensures)) ∙ c .if1 .left
+
+ready : (c : tie.Else1) → Reads (c .before .before .before .before .before .before .before .before .args .plan .now) (c .before .before .before .before .before .before .before .before .args .sheet .now) (c .before .before .before .before .before .before .before .before .args .bits .now)
+ready c = read-zero _ _ _ (passes c)
+
+read-checks-requires : tie.Need-read-checks-requires
+read-checks-requires c κs = search needs
+
+refused-as-requires : tie.Need-refused-as-requires
+refused-as-requires c κs = search needs
+
+same-length : tie.Need-same-length
+same-length c = search needs
+
+same-length-2 : tie.Need-same-length-2
+same-length-2 c = search needs
+
+returns : tie.Need-returns
+returns c =
+    let a = c .before .before .before .before .before .before .before .before .before .args in
+    let e = c .before .before .before .read-checks .ensures in
+    rw (c .refused-as .ensures, e)
+    (read-refuses (a .plan .now) (a .sheet .now) (a .bits .now) (λ z. c .before .if1 .taken (ap (λ (v : Verdict). v .number) e ∙ z)))
+
+read-requires : tie.Need-read-requires
+read-requires c κs = let f = ready c .accepted .framed in omega arith
+
+mend-sheet-requires : tie.Need-mend-sheet-requires
+unfolding codeOf
+mend-sheet-requires c κs =
+    let R = ready (c .before .before .before) in
+    rw (c .before .before .read .ensures) (usable _ _ refl (R .accepted), (R .form, R .bits-size))
+
+same-length-3 : tie.Need-same-length-3
+same-length-3 c = search needs
+
+same-length-4 : tie.Need-same-length-4
+same-length-4 c = search needs
+
+returns-2 : tie.Need-returns-2
+unfolding codeOf
+returns-2 c =
+    let a = c .before .before .before .before .before .before .before .before .before .before .before .before .before .before .before .before .args in
+    c .before .before .before .before .mend-sheet .ensures
+    ∙ ap (λ (h : Header). mendOutcome (codeWith (a .plan .now) h) (a .sheet .now) (a .bits .now)) (c .before .before .before .before .before .before .before .read .ensures)
+    ∙ read-mends (a .plan .now) (a .sheet .now) (a .bits .now) (passes (c .before .before .before .before .before .before .before .before))
+
+pub read-spec : {M : Type 1} → statement M
+read-spec =
+    tie.close
+    (tie.spec
+    read-checks-requires
+    refused-as-requires
+    same-length
+    same-length-2
+    returns
+    read-requires
+    mend-sheet-requires
+    same-length-3
+    same-length-4
+    returns-2)

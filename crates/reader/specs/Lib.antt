@@ -1,0 +1,3 @@
+-- What the reader writes and answers.
+pub mod Turn
+pub mod Read

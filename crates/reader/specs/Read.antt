@@ -1,0 +1,65 @@
+-- The read of one sheet (document 01, "Turned back"), as one function of the plan, the sheet and the data buffer to the
+-- answer and every byte of both buffers after the call. It owes nothing to the way in which a burst is found.
+--
+--   readVerdict    checks 1 to 13, and then 14: no burst brings both sums to 0
+--   sheetRead      the sheet after a read that succeeds: mended
+--   bitsRead       the data buffer after it: the data of the mended sheet
+--   reportRead     its report: the cells that were turned over
+--   Outcome        number and places, report, and both buffers after the call
+--   refused        a refusal: five zeros, and both buffers as they were
+--   taken          a success: number 0 and places 0, 0
+--   mendOutcome    what check 14 leaves, under a code, where checks 1 to 13 pass
+--   readOutcome    the read of one sheet
+--   outcome        an answer of the code with the buffers after it, as an outcome
+use Prim.Native.Nat.{ℕ}
+use mathlib.Core.Bool.{not, cond}
+use mathlib.Core.List.{List}
+use lib.Dec.{eqb}
+use Rattle.layout.specs.Cells.{cellOf, bytesOf}
+use Rattle.boxcode.specs.Code.{Code}
+use Rattle.boxcode.specs.Check.{dataSize, dataOf}
+use Rattle.boxcode.specs.Reader.{mendable, change, mended, reportOf}
+use Rattle.plan.specs.declared.verdict.Verdict.{Verdict}
+use Rattle.plan.specs.Verdict.{accepted, refusal, verdictIf, _orElse_}
+use Rattle.plan.specs.Bytes.{codeOf}
+use Rattle.buffers.specs.Buffers.{readChecks}
+use Rattle.mend.specs.declared.report.Report.{Report}
+use Rattle.mend.specs.Report.{noReport, reportAs}
+use Rattle.reader.specs.declared.answer.Answer.{Answer}
+
+unfoldable pub readVerdict : List ℕ → List ℕ → List ℕ → Verdict
+readVerdict plan sheet bits =
+    let c = codeOf plan in
+    readChecks plan sheet bits orElse verdictIf (not (mendable c (cellOf (c .n2) sheet))) (refusal 14 0 0)
+
+unfoldable pub sheetRead : Code → List ℕ → List ℕ
+sheetRead c sheet = bytesOf (c .n1) (c .n2) (mended c (cellOf (c .n2) sheet))
+
+-- k bits of data are stored as one row of k cells
+unfoldable pub bitsRead : Code → List ℕ → List ℕ
+bitsRead c sheet = bytesOf 1 (dataSize c) (λ i d. dataOf c (mended c (cellOf (c .n2) sheet)) d)
+
+unfoldable pub reportRead : Code → List ℕ → Report
+reportRead c sheet = reportAs (reportOf c (change c (cellOf (c .n2) sheet)))
+
+pub record Outcome : Type 0 where
+  pub verdict : Verdict
+  pub report : Report
+  pub sheet : List ℕ
+  pub bits : List ℕ
+
+abbrev pub refused : Verdict → List ℕ → List ℕ → Outcome
+refused v sheet bits = record { verdict = v; report = reportAs noReport; sheet = sheet; bits = bits }
+
+abbrev pub taken : Code → List ℕ → Outcome
+taken c sheet = record { verdict = accepted; report = reportRead c sheet; sheet = sheetRead c sheet; bits = bitsRead c sheet }
+
+unfoldable pub mendOutcome : Code → List ℕ → List ℕ → Outcome
+mendOutcome c sheet bits = cond (mendable c (cellOf (c .n2) sheet)) (taken c sheet) (refused (refusal 14 0 0) sheet bits)
+
+unfoldable pub readOutcome : List ℕ → List ℕ → List ℕ → Outcome
+readOutcome plan sheet bits =
+    let v = readVerdict plan sheet bits in cond (eqb (v .number) 0) (taken (codeOf plan) sheet) (refused v sheet bits)
+
+abbrev pub outcome : Answer → List ℕ → List ℕ → Outcome
+outcome r sheet bits = record { verdict = r .verdict; report = r .report; sheet = sheet; bits = bits }

@@ -1,0 +1,24 @@
+-- A burst turned over on the bytes of a sheet, digit by digit.
+--
+--   Rectangle n1 n2 top left b1 b2   the rectangle lies on the sheet
+--   digitsTurned                     the bytes after the first n digits of pattern number x
+--   boxTurned                        the bytes after all digits
+--
+-- That boxTurned has the cells of the pattern turned over and no others is `box-turned`, in proofs/Turned.antt.
+use Prim.Native.Nat.{ℕ, zero, suc, _+_, _*_, _/_, _%_, _≤_}
+use mathlib.Core.List.{List}
+use Rattle.finite.specs.Search.{bit}
+use Rattle.layout.specs.Cells.{turnedIf}
+
+pub record Rectangle (n1 n2 top left b1 b2 : ℕ) : Type 0 where
+  pub n1-most : n1 ≤ 512
+  pub n2-most : n2 ≤ 698
+  pub rows-on : top + b1 ≤ n1
+  pub columns-on : left + b2 ≤ n2
+
+unfoldable pub digitsTurned : ℕ → List ℕ → ℕ → ℕ → ℕ → ℕ → ℕ → List ℕ
+digitsTurned n2 s top left b2 x zero = s
+digitsTurned n2 s top left b2 x (suc k) = turnedIf (bit x k) n2 (digitsTurned n2 s top left b2 x k) (top + k / b2) (left + k % b2)
+
+unfoldable pub boxTurned : ℕ → List ℕ → ℕ → ℕ → ℕ → ℕ → ℕ → List ℕ
+boxTurned n2 s top left b1 b2 x = digitsTurned n2 s top left b2 x (b1 * b2)

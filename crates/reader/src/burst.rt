@@ -1,0 +1,55 @@
+// The burst of a sheet: found, which writes nothing, and then turned over, which is all that writes.
+ghost use mathlib.Core.Path.{_≡_};
+ghost use lib.ListN.{length};
+ghost use Rattle.layout.specs.Cells.{rowBytes, sheetBytes, cellOf, RightForm};
+ghost use Rattle.boxcode.specs.Syndrome.{rowSyndrome, columnSyndrome};
+ghost use Rattle.boxcode.specs.Check.{dataSize};
+ghost use Rattle.plan.specs.Bytes.{codeWith};
+ghost use Rattle.mend.specs.Usable.{Usable};
+ghost use Rattle.mend.specs.Found.{FoundFor, IsBurst};
+ghost use Rattle.reader.specs.Read.{outcome, taken};
+use crate::answer::Answer;
+use crate::turn::turn_box;
+use mend::find::find;
+use mend::found::Found;
+use mend::report::report_of;
+use payload::transfer::take;
+use plan::header::Header;
+use plan::table::unpack;
+use plan::verdict::accept;
+use syndrome::gather::sums;
+
+// The burst with the two sums of a sheet, under an accepted plan.
+pub fn find_burst(plan: &[u8], h: Header, sheet: &[u8]) -> Found
+    requires { ⌜ Usable (now plan) h ⌝ }
+    requires { ⌜ length (now sheet) ≡ sheetBytes (h .n1) (h .n2) ⌝ }
+    ensures { λ r. ⌜ FoundFor (codeWith (now (plan .entry)) h) (rowSyndrome (codeWith (now (plan .entry)) h) (cellOf (h .n2) (now (sheet .entry)))) (columnSyndrome (codeWith (now (plan .entry)) h) (cellOf (h .n2) (now (sheet .entry)))) r ⌝ }
+{
+    let columns = unpack(plan, h.columns, h.n2 * h.b1);
+    let s = sums(sheet, plan, h, &columns);
+    find(plan, h, &columns, s.row, s.column)
+}
+
+// Turns that burst over, takes the data of the mended sheet, and reports.
+pub fn apply_burst(
+    plan: &[u8],
+    h: Header,
+    sheet: &mut [u8],
+    bits: &mut [u8],
+    top: usize,
+    left: usize,
+    x: u64,
+) -> Answer
+    requires { ⌜ Usable (now plan) h ⌝ }
+    requires { ⌜ RightForm (h .n1) (h .n2) (now sheet) ⌝ }
+    requires { ⌜ length (now bits) ≡ rowBytes (dataSize (codeWith (now plan) h)) ⌝ }
+    requires { ⌜ IsBurst (codeWith (now plan) h) (rowSyndrome (codeWith (now plan) h) (cellOf (h .n2) (now sheet))) (columnSyndrome (codeWith (now plan) h) (cellOf (h .n2) (now sheet))) top left x ⌝ }
+    ensures { λ r. ⌜ outcome r (now (sheet .exit)) (now (bits .exit)) ≡ taken (codeWith (now (plan .entry)) h) (now (sheet .entry)) ⌝ }
+{
+    turn_box(sheet, h.n1, h.n2, top, left, h.b1, h.b2, x);
+    take(plan, h, sheet, bits);
+    Answer {
+        verdict: accept(),
+        report: report_of(top, left, h.b1, h.b2, x),
+    }
+}

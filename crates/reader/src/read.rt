@@ -1,0 +1,41 @@
+// The read of one sheet.
+ghost use mathlib.Core.Path.{_≡_};
+ghost use lib.ListN.{length};
+ghost use Rattle.layout.specs.Cells.{rowBytes, RightForm};
+ghost use Rattle.boxcode.specs.Check.{dataSize};
+ghost use Rattle.plan.specs.Bytes.{codeWith};
+ghost use Rattle.mend.specs.Usable.{Usable};
+ghost use Rattle.reader.specs.Read.{outcome, mendOutcome, readOutcome};
+use crate::answer::Answer;
+use crate::answer::refused_as;
+use crate::burst::apply_burst;
+use crate::burst::find_burst;
+use buffers::lent::read_checks;
+use mend::found::Found;
+use plan::header;
+use plan::header::Header;
+use plan::verdict::refuse;
+
+// Check 14, and the mend: only a burst that was found goes on to what writes.
+pub fn mend_sheet(plan: &[u8], h: Header, sheet: &mut [u8], bits: &mut [u8]) -> Answer
+    requires { ⌜ Usable (now plan) h ⌝ }
+    requires { ⌜ RightForm (h .n1) (h .n2) (now sheet) ⌝ }
+    requires { ⌜ length (now bits) ≡ rowBytes (dataSize (codeWith (now plan) h)) ⌝ }
+    ensures { λ r. ⌜ outcome r (now (sheet .exit)) (now (bits .exit)) ≡ mendOutcome (codeWith (now (plan .entry)) h) (now (sheet .entry)) (now (bits .entry)) ⌝ }
+{
+    let Found::Burst(top, left, x) = find_burst(plan, h, sheet) else {
+        return refused_as(refuse(14, 0, 0));
+    };
+    apply_burst(plan, h, sheet, bits, top, left, x)
+}
+
+// Checks 1 to 14, and the mend. A refusal changes no byte of either buffer.
+pub fn read(plan: &[u8], sheet: &mut [u8], bits: &mut [u8]) -> Answer
+    ensures { λ r. ⌜ outcome r (now (sheet .exit)) (now (bits .exit)) ≡ readOutcome (now (plan .entry)) (now (sheet .entry)) (now (bits .entry)) ⌝ }
+{
+    let checked = read_checks(plan, sheet, bits);
+    if checked.number != 0 {
+        return refused_as(checked);
+    }
+    mend_sheet(plan, header::read(plan), sheet, bits)
+}

@@ -1,0 +1,4 @@
+-- The laws of the definitions of specs/.
+pub mod Solved
+pub mod Filled
+pub mod Outcomes

@@ -1,0 +1,67 @@
+-- `writer::solving::joint_sum` meets its contract: the two sums stand in digits of their own. Assumes nothing.
+use mathlib.Core.Path.{_≡_, refl, sym, ap, _∙_}
+use Prim.Native.Nat.{_+_, _*_, _%_, _^_, _≤_}
+use native.Mathlib.Omega.{arith}
+use Rattle.layout.specs.Cells.{cellOf}
+use Rattle.plan.specs.Bytes.{codeWith}
+use Rattle.accept.proofs.JointEntries.{joint-word, shift-exact}
+use Rattle.writer.specs.Steps.{JointSum}
+use Rattle.writer.proofs.Solved.{joint-value}
+use borrow.Author.Needs.{needs}
+use Rattle.writer.proofs.solving.joint_sum.Statement.{statement}
+use Rattle.writer.proofs.solving.joint_sum.Tie as tie
+
+mul-unpack : tie.Need-mul-unpack
+mul-unpack c = search needs
+
+unpack-requires : tie.Need-unpack-requires
+unpack-requires c κs = search needs
+
+slice-aggregate-sums : tie.Need-slice-aggregate-sums
+slice-aggregate-sums c = search needs
+
+sums-requires : tie.Need-sums-requires
+sums-requires c κs =
+    let p = c .before .before .before .before .before .pre in
+    (p .0, (rw (p .0 .columns-at) at (c .before .unpack .ensures), p .1 .1))
+
+shl-result : tie.Need-shl-result
+shl-result c = search needs
+
+-- what the shift gives, that rv + rh digits fit a word, and the joint sum
+exact : (c : tie.After-sums) → 1 * 2 ^ c .before .before .before .before .before .before .args .h .rv % 18446744073709551616 ≡ 2 ^ c .before .before .before .before .before .before .args .h .rv
+exact c = shift-exact (c .before .before .before .before .before .before .args .h .rv) (c .before .before .before .before .before .before .pre .0 .small .rv-most)
+
+word : (c : tie.After-sums) → 2 ^ (c .before .before .before .before .before .before .args .h .rv + c .before .before .before .before .before .before .args .h .rh) ≤ 2 ^ 64
+word c =
+    let p = c .before .before .before .before .before .before .pre .0 .small in
+    joint-word (c .before .before .before .before .before .before .args .h .rv) (c .before .before .before .before .before .before .args .h .rh) (p .rv-most) (p .rh-most)
+
+whole : (c : tie.After-sums)
+    → JointSum (codeWith (c .before .before .before .before .before .before .args .plan .now) (c .before .before .before .before .before .before .args .h)) (cellOf (c .before .before .before .before .before .before .args .h .n2) (c .before .before .before .before .before .before .args .sheet .now))
+    (c .sums .result .row + 2 ^ c .before .before .before .before .before .before .args .h .rv * c .sums .result .column)
+whole c =
+    let a = c .before .before .before .before .before .before in
+    joint-value (codeWith (a .args .plan .now) (a .args .h)) (a .pre .1 .0) (cellOf (a .args .h .n2) (a .args .sheet .now)) _ _ (c .sums .ensures .row) (c .sums .ensures .column)
+
+mul-result : tie.Need-mul-result
+mul-result c = let j = whole (c .before) in let e = word (c .before) in rw (exact (c .before)) (omega (arith, j .below))
+
+add-result : tie.Need-add-result
+add-result c = let j = whole (c .before .before) in let e = word (c .before .before) in rw (exact (c .before .before)) (omega (arith, j .below))
+
+returns : tie.Need-returns
+returns c = rw (exact (c .before .before)) (whole (c .before .before))
+
+pub joint-sum-spec : {M : Type 1} → statement M
+joint-sum-spec =
+    tie.close
+    (tie.spec
+    mul-unpack
+    unpack-requires
+    slice-aggregate-sums
+    sums-requires
+    shl-result
+    mul-result
+    add-result
+    returns)

@@ -1,0 +1,34 @@
+-- Writing a sheet (document 01, "Sheet and data"; checks 1 to 13).
+--
+--   dataBits k s             the string of k bits in the bytes s: one row of k cells
+--   writtenBytes plan bits   every byte of the sheet written from the data under the plan
+--   Outcome                  what a call leaves: its answer and the bytes of the sheet
+--   write plan bits sheet    the outcome of writing: number 0 and the written sheet, or the first check that fails and the
+--                            sheet as it was
+use Prim.Native.Nat.{ℕ}
+use mathlib.Core.Bool.{cond}
+use mathlib.Core.List.{List}
+use lib.Dec.{eqb}
+use Rattle.layout.specs.Cells.{cellOf, bytesOf}
+use Rattle.boxcode.specs.Check.{Bits, dataSize, written}
+use Rattle.plan.specs.declared.verdict.Verdict.{Verdict}
+use Rattle.plan.specs.Bytes.{codeOf}
+use Rattle.buffers.specs.Buffers.{writeChecks}
+
+abbrev pub dataBits : ℕ → List ℕ → Bits
+dataBits k s d = cellOf k s 0 d
+
+unfoldable pub writtenBytes : List ℕ → List ℕ → List ℕ
+writtenBytes plan bits = let c = codeOf plan in bytesOf (c .n1) (c .n2) (written c (dataBits (dataSize c) bits))
+
+pub record Outcome : Type 0 where
+  pub verdict : Verdict
+  pub sheet : List ℕ
+
+abbrev pub outcome : Verdict → List ℕ → Outcome
+outcome v s = record { verdict = v; sheet = s }
+
+unfoldable pub write : List ℕ → List ℕ → List ℕ → Outcome
+write plan bits sheet =
+    let v = writeChecks plan bits sheet in
+    outcome v (cond (eqb (v .number) 0) (writtenBytes plan bits) sheet)

@@ -1,0 +1,4 @@
+// Writing a sheet from a string of data.
+pub mod solving;
+pub mod turning;
+pub mod writing;

@@ -1,0 +1,50 @@
+// What the check cells must hold: the digits that bring both sums of a sheet to 0.
+ghost use mathlib.Core.Path.{_≡_};
+ghost use Prim.Native.Nat.{_+_, _^_, _<_};
+ghost use lib.ListN.{length};
+ghost use Rattle.finite.specs.Search.{bit};
+ghost use Rattle.gf2.specs.Sum.{chosenSum};
+ghost use Rattle.layout.specs.Cells.{sheetBytes, cellOf};
+ghost use Rattle.boxcode.specs.Code.{Formed, checkJoint};
+ghost use Rattle.boxcode.specs.Condition.{Conditions};
+ghost use Rattle.plan.specs.Header.{Framed};
+ghost use Rattle.plan.specs.Bytes.{codeWith};
+ghost use Rattle.writer.specs.Steps.{JointSum};
+use accept::checks::check_joints;
+use gf2::Solution;
+use gf2::solve;
+use gf2::solver_of;
+use plan::header::Header;
+use plan::table::unpack;
+use syndrome::gather::sums;
+
+// The joint sum of a sheet: its V sum, and its H sum above the rv digits of that.
+pub fn joint_sum(sheet: &[u8], plan: &[u8], h: Header) -> u64
+    requires { ⌜ Framed (now plan) h ⌝ }
+    requires { ⌜ Formed (codeWith (now plan) h) ⌝ }
+    requires { ⌜ length (now sheet) ≡ sheetBytes (h .n1) (h .n2) ⌝ }
+    ensures { λ r. ⌜ JointSum (codeWith (now (plan .entry)) h) (cellOf (h .n2) (now (sheet .entry))) r ⌝ }
+{
+    let columns = unpack(plan, h.columns, h.n2 * h.b1);
+    let s = sums(sheet, plan, h, &columns);
+    s.row + (1u64 << h.rv) * s.column
+}
+
+// The check cells, as digits of a number, whose joint entries sum to the target. Under an accepted plan there are always some.
+pub fn check_digits(plan: &[u8], h: Header, target: u64) -> u64
+    requires { ⌜ Framed (now plan) h ⌝ }
+    requires { ⌜ Formed (codeWith (now plan) h) ⌝ }
+    requires { ⌜ Conditions (codeWith (now plan) h) ⌝ }
+    requires { ⌜ target < 2 ^ (h .rv + h .rh) ⌝ }
+    ensures { λ y. ⌜ chosenSum (h .rv + h .rh) (bit y) (checkJoint (codeWith (now (plan .entry)) h)) ≡ target ⌝ }
+{
+    let joints = check_joints(plan, h);
+    let count = h.rv + h.rh;
+    let solver = solver_of(&joints[..count]);
+    let basis = solver.basis;
+    let combos = solver.combos;
+    let Solution::Combination(y) = solve(&basis, &combos, target) else {
+        return 0;
+    };
+    y
+}
