@@ -92,8 +92,8 @@ unfolding fieldsVerdict
 fields-fits size h =
     else-fits (verdictIf (badBurst h) (refusal 2 0 0)) (third orElse fourth orElse fifth) (if-fits (badBurst h) (refusal 2 0 0) (λ _. refusal-fits 2 (omega arith)))
     (λ _. else-fits third (fourth orElse fifth) (if-fits (badSheet h) (refusal 3 0 0) (λ _. refusal-fits 3 (omega arith)))
-      (λ _. else-fits fourth fifth (if-fits (badWidths h) (refusal 4 0 0) (λ _. refusal-fits 4 (omega arith)))
-        (λ _. if-fits (badOffsets size h) (refusal 5 0 0) (λ _. refusal-fits 5 (omega arith)))))
+    (λ _. else-fits fourth fifth (if-fits (badWidths h) (refusal 4 0 0) (λ _. refusal-fits 4 (omega arith)))
+    (λ _. if-fits (badOffsets size h) (refusal 5 0 0) (λ _. refusal-fits 5 (omega arith)))))
   where
     third : Verdict
     third = verdictIf (badSheet h) (refusal 3 0 0)
@@ -138,8 +138,8 @@ unfolding formVerdict codeOf
 form-fits s =
     else-fits (headerVerdict s) (entriesVerdict (codeOf s) orElse listVerdict (codeOf s)) (header-fits s)
     (λ e. let p = framed s e .small in
-      else-fits (entriesVerdict (codeOf s)) (listVerdict (codeOf s)) (entries-fits (codeOf s) (p .row-positions) (p .column-positions))
-      (λ _. list-fits (codeOf s) (omega (arith, p .rv-most, p .rh-most))))
+    else-fits (entriesVerdict (codeOf s)) (listVerdict (codeOf s)) (entries-fits (codeOf s) (p .row-positions) (p .column-positions))
+    (λ _. list-fits (codeOf s) (omega (arith, p .rv-most, p .rh-most))))
 
 conditions-fits : (c : Code) → Formed c → Fits (conditionsVerdict c)
 unfolding conditionsVerdict rowsVerdict columnsVerdict checksVerdict
@@ -147,9 +147,9 @@ conditions-fits c F =
     else-fits (rowsVerdict c) (columnsVerdict c orElse checksVerdict c)
     (pair-fits 8 (c .n1 - c .b1 + 1) (rowPairFree c) (λ i. i) (omega arith) (omega (arith, F .n1-most)) (λ k l. omega arith))
     (λ _. else-fits (columnsVerdict c) (checksVerdict c)
-      (pair-fits 9 (c .n2 - c .b2 + 1) (columnPairFree c) (λ i. i + 1) (omega arith) (omega (arith, F .n2-most)) (λ k l. omega arith))
-      (λ _. place-fits (c .rv + c .rh) (least (c .rv + c .rh) (λ k. spanned k everyone (checkJoint c) (checkJoint c k))) 10
-        (omega (arith, F .rv-most, F .rh-most)) (omega arith)))
+    (pair-fits 9 (c .n2 - c .b2 + 1) (columnPairFree c) (λ i. i + 1) (omega arith) (omega (arith, F .n2-most)) (λ k l. omega arith))
+    (λ _. place-fits (c .rv + c .rh) (least (c .rv + c .rh) (λ k. spanned k everyone (checkJoint c) (checkJoint c k))) 10
+    (omega (arith, F .rv-most, F .rh-most)) (omega arith)))
 
 pub plan-fits : (s : List ℕ) → Fits (planVerdict s)
 unfolding planVerdict

@@ -31,8 +31,9 @@ use Rattle.finite.proofs.Digits.{place-to}
 use Rattle.gf2.specs.Xor.{_⊕_}
 use Rattle.gf2.proofs.Xor.{xor-is, xor-below}
 use Rattle.gf2.specs.Vectors.{listed, freeFrom}
-use Rattle.gf2.specs.Basis.{emptyWords, extended, Below}
-use Rattle.gf2.proofs.Basis.{basis-start, extended-free}
+use Rattle.gf2.specs.Swept.{KeptOf}
+use Rattle.gf2.specs.declared.Kept.{Kept}
+use Rattle.gf2.proofs.Keeping.{kept-free}
 use Rattle.gf2.proofs.Vectors.{listed-in, listed-out, listed-none, free-listed}
 use Rattle.gf2.proofs.Independence.{free-equal}
 use Rattle.boxcode.specs.Code.{Code}
@@ -155,39 +156,14 @@ pub members-free : (c : Code) (a b : ℕ) → columnPairFree c a b ≡ freeFrom 
 unfolding columnPairFree membersOf
 members-free c a b = free-listed (c .b2 * c .b1) (columnMember c a b) (columnDifference c a b)
 
--- words stay words
-pub listed-below : (w n : ℕ) (member : ℕ → Bool) (f : ℕ → ℕ) → ((k : ℕ) → f k < 2 ^ w) → Below w (listed n member f)
-unfolding listed
-listed-below w zero member f h = λ k l. absurd (omega arith)
-listed-below w (suc n) member f h = go (member n) (listed-below w n member f h)
-  where
-    go : (t : Bool) → Below w (listed n member f) → Below w (listed n member f ++ cond t (f n ∷ []) [])
-    go false ih = rw (append-nil (listed n member f)) ih
-    go true ih = λ k l. at k l (decLt k (length (listed n member f)))
-      where
-        at : (k : ℕ) → k < length (listed n member f ++ (f n ∷ [])) → Dec (k < length (listed n member f))
-            → getD (listed n member f ++ (f n ∷ [])) k 0 < 2 ^ w
-        at k l (yes m) = rw (List·getD-append (listed n member f) (f n ∷ []) 0 k m) (ih k m)
-        at k l (no m) =
-            let e : k ≡ length (listed n member f) = omega (arith, length-append (listed n member f) (f n ∷ [])) in
-            rw (e, getD-append-seam (listed n member f) (f n) [] 0) (h n)
-
-pub members-below : (words : List ℕ) (height width a b r : ℕ) → ((k : ℕ) → getD words k 0 < 2 ^ 64)
-    → Below 64 (membersOf (columnCode words height width) a b r)
-unfolding membersOf columnDifference stripEntry
-members-below words height width a b r h =
-    listed-below 64 (r * height) (columnMember (columnCode words height width) a b) (columnDifference (columnCode words height width) a b)
-    (λ k. xor-below 64 _ _ (h _) (h _))
-
 -- all gathered members are taken exactly where they are free
-pub gathered-free : (words : List ℕ) (height width a b : ℕ) → ((k : ℕ) → getD words k 0 < 2 ^ 64) → {g : Gathered}
-    → Members g (membersOf (columnCode words height width) a b width)
-    → eqb (extended emptyWords (take (g .count) (g .words)) .taken) (g .count) ≡ columnPairFree (columnCode words height width) a b
-gathered-free words height width a b h {g} m =
+pub gathered-free : (words : List ℕ) (height width a b : ℕ) {g : Gathered} {r : Kept}
+    → Members g (membersOf (columnCode words height width) a b width) → KeptOf (take (g .count) (g .words)) r
+    → eqb (r .taken) (g .count) ≡ columnPairFree (columnCode words height width) a b
+gathered-free words height width a b {g} {r} m k =
     let n : length (take (g .count) (g .words)) ≡ g .count = length-take-le (g .count) (g .words) (omega (arith, m .size, m .most)) in
-    let ms = membersOf (columnCode words height width) a b width in
-    let e : length ms ≡ g .count = sym (ap length (m .held)) ∙ n in
-    rw (m .held, ← e) (extended-free ms basis-start (members-below words height width a b width h) ∙ sym (members-free (columnCode words height width) a b))
+    ap (eqb (r .taken)) (sym n) ∙ kept-free (take (g .count) (g .words)) r (omega (arith, m .most)) k
+    ∙ ap (freeFrom []) (m .held) ∙ sym (members-free (columnCode words height width) a b)
 
 -- two strips of a table
 pub strips-of : {n height width count : ℕ} (a b : ℕ) → AllStrips n height width count → a < b → b < count → Strips n height width a b

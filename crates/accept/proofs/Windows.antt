@@ -1,84 +1,83 @@
--- The pair test of two windows by a basis of the first.
+-- The pair test of two windows by the words kept of the first.
 --
 --   start-fits       the window at i lies in the table
 --   part-length      a run has as many entries as it says
---   runs-dependent   the first run is not free: nor are the two
---   runs-more        it is free: the two are where the rest of the second is free over the first one's basis
+--   swept-next       one word more of a table is swept
+--   kept-most        at most 64 are kept
+--   run-free         a run is free where all of it is kept
+--   runs-swept       two runs are free where all of the first are kept and the rest of the second is free as they leave it
 --
 -- Assumes nothing.
-use mathlib.Core.Path.{_≡_, refl, sym, ap, _∙_}
-use mathlib.Core.Bool.{Bool, true, false, _&&_}
-use mathlib.Core.List.{List, [], _∷_, _++_, reverseAux}
-use Prim.Native.Nat.{ℕ, _+_, _-_, _*_, _^_, _≤_, _<_, max}
+use mathlib.Core.Path.{_≡_, refl, sym, ap, ap₂, _∙_}
+use mathlib.Core.Bool.{Bool, _&&_}
+use mathlib.Core.List.{List, [], _∷_, _++_, map}
+use Prim.Native.Nat.{ℕ, zero, suc, _+_, _-_, _*_, _≤_, _<_, max}
 use native.Mathlib.Nat.{mul-le-mul-right, suc-mul}
+use native.Mathlib.Decide.{ℕ-discrete}
 use native.Mathlib.Omega.{arith}
-use borrow.Author.Tests.{eq-eqb, ne-eqb, eqb-true}
 use lib.Dec.{eqb}
-use lib.ListN.{length, getD, take, drop, length-take, length-drop}
-use lib.Seq.{getD-take, getD-drop, take-length}
-use Rattle.gf2.specs.declared.Extended.{Extended}
-use Rattle.gf2.specs.Vectors.{takenFrom, freeFrom, part}
-use Rattle.gf2.specs.Basis.{emptyWords, extended, Below, BasisOf}
-use Rattle.gf2.proofs.Vectors.{free-append, taken-le}
-use Rattle.gf2.proofs.Basis.{basis-start, basis-extended, extended-taken, extended-free}
-use Rattle.accept.specs.Tables.{runsFree}
+use lib.ListN.{length, getD, take, drop, set, length-take, length-drop, length-map}
+use lib.Seq.{getD-take, getD-drop, getD-set-same, getD-set-other, ext-getD}
+use Rattle.gf2.specs.declared.Kept.{Kept}
+use Rattle.gf2.specs.Vectors.{freeFrom, part}
+use Rattle.gf2.specs.Swept.{swept, KeptOf}
+use Rattle.gf2.proofs.Vectors.{taken-le}
+use Rattle.gf2.proofs.Keeping.{kept-free, kept-append}
+use Rattle.accept.specs.Tables.{runsFree, sweptFree, SweptFrom, AllWindows}
 
-pub start-fits : (i count step size n : ℕ) → i < count → count * step + size ≤ n + step → i * step + size ≤ n
-start-fits i count step size n l u = omega (arith, mul-le-mul-right step l, suc-mul i step)
+pub start-fits : {n step size count : ℕ} (i : ℕ) → AllWindows n step size count → i < count → i * step + size ≤ n
+start-fits {n} {step} {size} {count} i w l = omega (arith, mul-le-mul-right step l, suc-mul i step, w .inside)
 
 pub part-length : (a b : ℕ) (t : List ℕ) → a ≤ b → b ≤ length t → length (part a b t) ≡ b - a
 part-length a b t l u = simp (length-take, length-drop) (omega arith)
 
--- a run of words is a run of words
-pub part-below : (a b : ℕ) (t : List ℕ) → a ≤ b → b ≤ length t → Below 64 t → Below 64 (part a b t)
-part-below a b t l u w k lk =
+part-at : (a b : ℕ) (t : List ℕ) (k : ℕ) → k < b - a → getD (part a b t) k 0 ≡ getD t (a + k) 0
+part-at a b t k l = getD-take (b - a) (drop a t) k 0 l ∙ getD-drop a t k 0
+
+map-at : (g : ℕ → ℕ) (t : List ℕ) (k : ℕ) → k < length t → getD (map g t) k 0 ≡ g (getD t k 0)
+map-at g [] k l = absurd (omega arith)
+map-at g (x ∷ t) zero l = refl
+map-at g (x ∷ t) (suc k) l = map-at g t k (omega arith)
+
+-- a run of a table that has the words of another, each changed by g
+part-mapped :
+    (g : ℕ → ℕ) (a b : ℕ) (words t : List ℕ) → a ≤ b → b ≤ length words → length t ≡ length words
+    → ((k : ℕ) → a ≤ k → k < length words → getD t k 0 ≡ g (getD words k 0)) → map g (part a b words) ≡ part a b t
+part-mapped g a b words t l u e h =
+    let m = length-map (part a b words) g in
+    let n = part-length a b words l u in
+    let n′ = part-length a b t l (omega arith) in
+    ext-getD 0 (map g (part a b words)) (part a b t) (omega arith)
+    (λ k lk. map-at g (part a b words) k (omega arith) ∙ ap g (part-at a b words k (omega arith))
+    ∙ sym (part-at a b t k (omega arith) ∙ h (a + k) (omega arith) (omega arith)))
+
+-- one word more is swept
+pub swept-next :
+    (g : ℕ → ℕ) (words t : List ℕ) (from k : ℕ) → k < length t → ((n : ℕ) → from ≤ n → n < k → getD t n 0 ≡ g (getD words n 0))
+    → (v : ℕ) → v ≡ g (getD words k 0) → (n : ℕ) → from ≤ n → n < k + 1 → getD (set t k v) n 0 ≡ g (getD words n 0)
+swept-next g words t from k l h v e n f u = go (ℕ-discrete n k)
+  where
+    go : Dec (n ≡ k) → getD (set t k v) n 0 ≡ g (getD words n 0)
+    go (yes p) = rw p (getD-set-same t k v 0 l ∙ e)
+    go (no p) = getD-set-other t k n v 0 p ∙ h n f (omega arith)
+
+-- what is kept has room in 64 places
+pub kept-most : {ms : List ℕ} {r : Kept} → KeptOf ms r → r .taken ≤ 64
+kept-most {ms} {r} k = omega (arith, k .count, taken-le (take 64 ms) [], length-take 64 ms)
+
+-- a run is free where all of it is kept
+pub run-free : (a b : ℕ) (t : List ℕ) {r : Kept} → a ≤ b → b ≤ length t → b ≤ a + 64 → KeptOf (part a b t) r → eqb (r .taken) (b - a) ≡ freeFrom [] (part a b t)
+run-free a b t {r} l u s k =
     let n = part-length a b t l u in
-    rw (getD-take (b - a) (drop a t) k 0 (omega arith), getD-drop a t k 0) (w (a + k) (omega arith))
+    ap (eqb (r .taken)) (sym n) ∙ kept-free (part a b t) r (omega arith) k
 
-module _ (words : List ℕ) (w : Below 64 words) (size a b : ℕ) (l : a ≤ b) (u : b + size ≤ length words) where
-  first : List ℕ
-  first = part a (a + size) words
-
-  second : List ℕ
-  second = part (max (a + size) b) (b + size) words
-
-  first-below : Below 64 first
-  unfolding first
-  first-below = part-below a (a + size) words (omega arith) (omega arith) w
-
-  first-length : length first ≡ size
-  unfolding first
-  first-length = part-length a (a + size) words (omega arith) (omega arith) ∙ omega arith
-
-  second-below : Below 64 second
-  unfolding second
-  second-below = part-below (max (a + size) b) (b + size) words (omega arith) u w
-
-  second-length : length second ≡ b + size - max (a + size) b
-  unfolding second
-  second-length = part-length (max (a + size) b) (b + size) words (omega arith) u
-
-  runs-both : runsFree words size a b ≡ (freeFrom [] first && freeFrom (reverseAux first []) second)
-  unfolding runsFree first second
-  runs-both = free-append (part a (a + size) words) [] (part (max (a + size) b) (b + size) words)
-
-  first-free : freeFrom [] first ≡ eqb (extended emptyWords first .taken) size
-  first-free = sym (extended-free first basis-start first-below) ∙ ap (λ (n : ℕ). eqb (extended emptyWords first .taken) n) first-length
-
-  pub runs-dependent : extended emptyWords (part a (a + size) words) .taken < size → runsFree words size a b ≡ false
-  unfolding first
-  runs-dependent t = runs-both ∙ rw (first-free, ne-eqb (extended emptyWords first .taken) size (λ e. omega arith))
-
-  pub runs-more : size ≤ extended emptyWords (part a (a + size) words) .taken
-      → runsFree words size a b
-      ≡ eqb (extended (extended emptyWords (part a (a + size) words) .basis) (part (max (a + size) b) (b + size) words) .taken)
-      (b + size - max (a + size) b)
-  unfolding first second
-  runs-more t =
-      let e : takenFrom [] first ≡ length first =
-      omega (arith, extended-taken first basis-start first-below, taken-le first [], first-length) in
-      let B : BasisOf (reverseAux first []) (extended emptyWords first .basis) =
-      rw (e, take-length first) at (basis-extended first basis-start first-below .basis) in
-      let f : freeFrom [] first ≡ true =
-      first-free ∙ eq-eqb (extended emptyWords first .taken) size (omega (arith, extended-taken first basis-start first-below, first-length)) in
-      runs-both ∙ rw f (sym (extended-free second B second-below) ∙ ap (eqb (extended (extended emptyWords first .basis) second .taken)) second-length)
+pub runs-swept :
+    {words t : List ℕ} {base : Kept} (size a b : ℕ) → size ≤ 64 → a ≤ b → b + size ≤ length words → KeptOf (part a (a + size) words) base
+    → SweptFrom base words (a + size) t → runsFree words size a b ≡ sweptFree (base .taken) t size a b
+unfolding runsFree sweptFree
+runs-swept {words} {t} {base} size a b s l u k w =
+    let n : length (part a (a + size) words) ≡ size = part-length a (a + size) words (omega arith) (omega arith) ∙ omega arith in
+    let g = swept (take (base .taken) (base .words)) in
+    kept-append (part a (a + size) words) (part (max (a + size) b) (b + size) words) base (omega arith) k
+    ∙ ap₂ (λ (x : ℕ) (y : List ℕ). eqb (base .taken) x && freeFrom [] y) n
+    (part-mapped g (max (a + size) b) (b + size) words t (omega arith) u (w .size) (λ k l′ u′. w .entry k (omega arith) u′))

@@ -2,6 +2,9 @@
 --
 --   runsFree words size a b           the entries of the runs of size entries from a and from b, each position once, are free
 --   windowsFree words step size i j   the same of windows number i and j, when one starts step entries after the other
+--   AllWindows                        the windows lie in the table
+--   SweptFrom base words from t       t has the words from a place on as a base of some members leaves them
+--   sweptFree taken t size a b        all of the first run are taken, and the rest of the second is free as it stands in t
 --   columnCode words b1 b2            a code with these words as its column table
 --   jointsOf c                        the joint entries of the check cells
 --   Strips, AllStrips                 two strips that lie in a table; all that do
@@ -11,11 +14,14 @@
 --   Joint, Joints                     what is promised of a joint entry, and of an array of them
 use Prim.Native.Nat.{ℕ, zero, suc, _+_, _*_, _^_, _≤_, _<_, max}
 use mathlib.Core.Path.{_≡_}
-use mathlib.Core.Bool.{Bool, true}
+use mathlib.Core.Bool.{Bool, _&&_}
 use mathlib.Core.List.{List, [], _∷_, _++_}
+use lib.Dec.{eqb}
 use lib.ListN.{length, getD, take}
 use Rattle.gf2.specs.Xor.{_⊕_}
 use Rattle.gf2.specs.Vectors.{freeFrom, listed, part}
+use Rattle.gf2.specs.Swept.{swept}
+use Rattle.gf2.specs.declared.Kept.{Kept}
 use Rattle.boxcode.specs.Code.{Code, checkJoint}
 use Rattle.boxcode.specs.Condition.{everyone, columnMember, columnDifference}
 use Rattle.accept.specs.declared.columns.Gathered.{Gathered}
@@ -25,6 +31,21 @@ runsFree words size a b = freeFrom [] (part a (a + size) words ++ part (max (a +
 
 abbrev pub windowsFree : List ℕ → ℕ → ℕ → ℕ → ℕ → Bool
 windowsFree words step size i j = runsFree words size (i * step) (j * step)
+
+-- count windows of size entries, each step after the one before, lie in a table of n words
+pub record AllWindows (n step size count : ℕ) : Type 0 where
+  pub step-most : step ≤ 4
+  pub size-most : size ≤ 16
+  pub few : count ≤ 512
+  pub inside : count * step + size ≤ n + step
+
+-- from a place on the words of t are those of words as a base leaves them
+pub record SweptFrom (base : Kept) (words : List ℕ) (from : ℕ) (t : List ℕ) : Type 0 where
+  pub size : length t ≡ length words
+  pub entry : (k : ℕ) → from ≤ k → k < length words → getD t k 0 ≡ swept (take (base .taken) (base .words)) (getD words k 0)
+
+unfoldable pub sweptFree : ℕ → List ℕ → ℕ → ℕ → ℕ → Bool
+sweptFree taken t size a b = eqb taken size && freeFrom [] (part (max (a + size) b) (b + size) t)
 
 abbrev pub columnCode : List ℕ → ℕ → ℕ → Code
 columnCode words b1 b2 = record {

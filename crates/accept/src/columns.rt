@@ -12,8 +12,7 @@ ghost use Rattle.accept.specs.Tables.{columnCode, AllStrips, Strips, Mem
 ghost use Rattle.accept.specs.Verdict.{columnsVerdict};
 use crate::pairs::Pair;
 use crate::pairs::pair_verdict;
-use gf2::empty_basis;
-use gf2::extend;
+use gf2::keep;
 use plan::header::Header;
 use plan::table::unpack;
 use plan::verdict::Verdict;
@@ -82,7 +81,7 @@ fn strips_free(words: &[u64], height: usize, width: usize, a: usize, b: usize) -
     let g = gather(words, height, width, a, b);
     let members = g.words;
     let count = g.count;
-    let taken = extend(empty_basis(), &members[..count]).taken;
+    let taken = keep(&members[..count]).taken;
     taken == count
 }
 

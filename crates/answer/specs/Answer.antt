@@ -19,16 +19,16 @@ pub record Fields : Type 0 where
   pub width : ℕ
 
 abbrev pub fieldsOf : Answer → Fields
-fieldsOf a = record
-    { number = a .number
-    ; p = a .p
-    ; q = a .q
-    ; cells = a .cells
-    ; top = a .top
-    ; left = a .left
-    ; height = a .height
-    ; width = a .width
-    }
+fieldsOf a = record {
+  number = a .number;
+  p = a .p;
+  q = a .q;
+  cells = a .cells;
+  top = a .top;
+  left = a .left;
+  height = a .height;
+  width = a .width;
+}
 
 pub record InRange (f : Fields) : Type 0 where
   pub number-fits : f .number < 32

@@ -31,4 +31,3 @@ listed (suc n) member f = listed n member f ++ cond (member n) (f n ∷ []) []
 
 abbrev pub part : ℕ → ℕ → List ℕ → List ℕ
 part a b t = take (b - a) (drop a t)
-

@@ -1,3 +1,4 @@
 -- The laws of the definitions of specs/.
 pub mod Turned
 pub mod Outcome
+pub mod Cases

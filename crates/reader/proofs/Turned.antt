@@ -4,7 +4,7 @@
 --   digits-length              the number of bytes stays
 --   digits-form, digits-cell   after the first n digits: the right form is kept, and the cells of those digits are turned over
 --   box-turned                 after all digits the bytes are those of the sheet with the pattern's cells turned over
---   digits-next                one turn of the loop
+--   digits-none, digits-next   where the loop begins, and one turn of it
 --
 -- Assumes nothing.
 use mathlib.Core.Path.{_≡_, refl, sym, ap, ap₂, _∙_}

@@ -1,15 +1,59 @@
 -- What the exported calls answer, and what they leave in the buffers lent to them.
 --
 --   verdictFields   an answer that has a number and places alone
+--   reportFields    an answer of the reader
 --   planAnswer      the answer of the test of a plan: checks 1 to 10 in order, the first that fails, packed
+--   Written, writeCall   the answer of writing, packed, and every byte of the sheet after it
+--   Read, readCall       the answer of reading, packed, and every byte of the sheet and of the data buffer after it
 use Prim.Native.Nat.{ℕ}
 use mathlib.Core.List.{List}
 use Rattle.answer.specs.Answer.{Fields, packed}
 use Rattle.plan.specs.declared.verdict.Verdict.{Verdict}
+use Rattle.mend.specs.declared.report.Report.{Report}
 use Rattle.accept.specs.Verdict.{planVerdict}
+use Rattle.writer.specs.Write.{write}
+use Rattle.reader.specs.Read.{readOutcome}
 
 abbrev pub verdictFields : Verdict → Fields
 verdictFields v = record { number = v .number; p = v .p; q = v .q; cells = 0; top = 0; left = 0; height = 0; width = 0 }
 
+abbrev pub reportFields : Verdict → Report → Fields
+reportFields v r = record {
+  number = v .number;
+  p = v .p;
+  q = v .q;
+  cells = r .cells;
+  top = r .top;
+  left = r .left;
+  height = r .height;
+  width = r .width;
+}
+
 unfoldable pub planAnswer : List ℕ → ℕ
 planAnswer s = packed (verdictFields (planVerdict s))
+
+pub record Written : Type 0 where
+  pub answer : ℕ
+  pub sheet : List ℕ
+
+unfoldable pub writeCall : List ℕ → List ℕ → List ℕ → Written
+writeCall plan bits sheet =
+    let o = write plan bits sheet in
+    record { answer = packed (verdictFields (o .verdict)); sheet = o .sheet }
+
+pub record Read : Type 0 where
+  pub answer : ℕ
+  pub sheet : List ℕ
+  pub bits : List ℕ
+
+unfoldable pub readCall : List ℕ → List ℕ → List ℕ → Read
+readCall plan sheet bits =
+    let o = readOutcome plan sheet bits in
+    record { answer = packed (reportFields (o .verdict) (o .report)); sheet = o .sheet; bits = o .bits }
+
+-- an answer with the buffers after it
+abbrev pub written : ℕ → List ℕ → Written
+written a s = record { answer = a; sheet = s }
+
+abbrev pub readTo : ℕ → List ℕ → List ℕ → Read
+readTo a s b = record { answer = a; sheet = s; bits = b }

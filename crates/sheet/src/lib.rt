@@ -1,9 +1,12 @@
 // The calls for C (include/sheet.h). Each takes whatever it is handed, and answers one 64-bit number (docs/ANSWER.md).
+// A call that turns something back changes no byte of any buffer. The data buffer is called bits here.
 ghost use mathlib.Core.Path.{_≡_};
-ghost use Rattle.sheet.specs.Calls.{planAnswer};
-
+ghost use Rattle.sheet.specs.Calls.{planAnswer, written, writeCall, readTo, readCall};
 use accept::test::test;
-use answer::{pack, Answer};
+use answer::Answer;
+use answer::pack;
+use reader::read::read;
+use writer::writing::write;
 
 // Tests a plan: the number and places of the first check of document 01 that fails, or 0.
 #[no_mangle]
@@ -20,5 +23,43 @@ pub extern "C" fn sheet_plan_test(plan: &[u8]) -> u64
         left: 0,
         height: 0,
         width: 0,
+    })
+}
+
+// Writes the sheet that carries the data: every byte of it, whatever it held.
+#[no_mangle]
+pub extern "C" fn sheet_write(plan: &[u8], bits: &[u8], sheet: &mut [u8]) -> u64
+    ensures { λ r. ⌜ written r (now (sheet .exit)) ≡ writeCall (now (plan .entry)) (now (bits .entry)) (now (sheet .entry)) ⌝ }
+{
+    let v = write(plan, bits, sheet);
+    pack(Answer {
+        number: v.number,
+        p: v.p,
+        q: v.q,
+        cells: 0,
+        top: 0,
+        left: 0,
+        height: 0,
+        width: 0,
+    })
+}
+
+// Reads a sheet: mends it in place, writes its data, and tells which cells were turned over.
+#[no_mangle]
+pub extern "C" fn sheet_read(plan: &[u8], sheet: &mut [u8], bits: &mut [u8]) -> u64
+    ensures { λ r. ⌜ readTo r (now (sheet .exit)) (now (bits .exit)) ≡ readCall (now (plan .entry)) (now (sheet .entry)) (now (bits .entry)) ⌝ }
+{
+    let a = read(plan, sheet, bits);
+    let v = a.verdict;
+    let r = a.report;
+    pack(Answer {
+        number: v.number,
+        p: v.p,
+        q: v.q,
+        cells: r.cells,
+        top: r.top,
+        left: r.left,
+        height: r.height,
+        width: r.width,
     })
 }

@@ -11,18 +11,18 @@ test-requires : tie.Need-test-requires
 test-requires c κs = search needs
 
 pack-requires : tie.Need-pack-requires
-pack-requires c κs = 
+pack-requires c κs =
     let f : Fits (c .test .result) = rw (c .test .ensures) (plan-fits (c .before .before .args .plan .now)) in
-    record
-      { number-fits = f .number-fits
-      ; p-fits = f .p-fits
-      ; q-fits = f .q-fits
-      ; cells-fits = omega arith
-      ; top-fits = omega arith
-      ; left-fits = omega arith
-      ; height-fits = omega arith
-      ; width-fits = omega arith
-      }
+    record {
+      number-fits = f .number-fits;
+      p-fits = f .p-fits;
+      q-fits = f .q-fits;
+      cells-fits = omega arith;
+      top-fits = omega arith;
+      left-fits = omega arith;
+      height-fits = omega arith;
+      width-fits = omega arith;
+    }
 
 returns : tie.Need-returns
 unfolding planAnswer

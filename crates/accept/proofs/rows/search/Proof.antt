@@ -1,4 +1,3 @@
-use Rattle.accept.proofs.Windows.{start-fits}
 -- `accept::rows::search` meets its contract. The invariants: no pair so far fails, and what is left to search is said by the definition.
 -- Assumes nothing.
 use mathlib.Core.Path.{_≡_, refl, sym, ap, _∙_}
@@ -8,110 +7,135 @@ use native.Mathlib.Nat.{mul-le-mul-right, sub-zero}
 use lib.ListN.{length}
 use native.Mathlib.Omega.{arith}
 use borrow.Author.Tests.{not-true, not-false}
-use Rattle.gf2.specs.Basis.{emptyWords, extended}
-use Rattle.gf2.specs.Vectors.{part}
 use Rattle.accept.specs.declared.pairs.Pair.the-variants.{Failing, Clear}
 use Rattle.accept.specs.Pairs.{inRow, fromRow, firstFailing}
 use Rattle.accept.specs.Tables.{windowsFree}
 use Rattle.accept.proofs.Pairing.{row-next, row-fails, row-end, rows-next, rows-end}
+use Rattle.accept.proofs.Windows.{start-fits, kept-most, runs-swept}
+use borrow.Author.Needs.{needs}
 use Rattle.accept.proofs.rows.search.Statement.{statement}
 use Rattle.accept.proofs.rows.search.Tie as tie
 
 abbrev Inv-loop : tie.InvT-loop
-Inv-loop words step size count found₀ i base j₀ found j =
+Inv-loop words swept step size count found₀ i first base j₀ found j =
     (i ≤ j) × (j ≤ count) × (found ≡ Clear)
     × (firstFailing (windowsFree words step size) (λ k. k) count
     ≡ inRow (windowsFree words step size) i j (count - j) (fromRow (windowsFree words step size) (λ k. k) count (i + 1) (count - (i + 1))))
 
 abbrev μ-loop : tie.MeasureT-loop
-μ-loop words step size count found₀ i base j₀ found j = count - j
+μ-loop words swept step size count found₀ i first base j₀ found j = count - j
 
 abbrev Inv-search : tie.InvT-search
-Inv-search words step size count found₀ i₀ found i =
-    (i ≤ count) × (found ≡ Clear)
+Inv-search words swept₀ step size count found₀ i₀ swept found i =
+    (i ≤ count) × (length swept ≡ length words) × (found ≡ Clear)
     × (firstFailing (windowsFree words step size) (λ k. k) count ≡ fromRow (windowsFree words step size) (λ k. k) count i (count - i))
 
 abbrev μ-search : tie.MeasureT-search
-μ-search words step size count found₀ i₀ found i = count - i
+μ-search words swept₀ step size count found₀ i₀ swept found i = count - i
+
+-- window i lies in the table, and so does window j
+first-in : (c : tie.In-search Inv-loop μ-loop Inv-search μ-search) → c .before .search .i * c .before .before .before .before .args .step + c .before .before .before .before .args .size ≤ length (c .before .before .before .before .args .words .now)
+first-in c = start-fits (c .before .search .i) (c .before .before .before .before .pre .0) (c .search-test .taken)
+
+second-in : (c : tie.In-loop Inv-loop μ-loop Inv-search μ-search) → c .before .loop .j * c .before .before .before .before .before .before .before .before .before .before .before .before .args .step + c .before .before .before .before .before .before .before .before .before .before .before .before .args .size ≤ length (c .before .before .before .before .before .before .before .before .before .before .before .before .args .words .now)
+second-in c = start-fits (c .before .loop .j) (c .before .before .before .before .before .before .before .before .before .before .before .before .pre .0) (c .loop-test .taken)
+
+rising : (c : tie.In-loop Inv-loop μ-loop Inv-search μ-search) → c .before .before .before .before .before .before .before .before .before .search .i * c .before .before .before .before .before .before .before .before .before .before .before .before .args .step ≤ c .before .loop .j * c .before .before .before .before .before .before .before .before .before .before .before .before .args .step
+rising c = mul-le-mul-right (c .before .before .before .before .before .before .before .before .before .before .before .before .args .step) (c .before .loop .inv .0)
+
+-- the pair test is that of the words
+tested : (c : tie.After-pair-free Inv-loop μ-loop Inv-search μ-search)
+    → windowsFree (c .before .before .before .before .before .before .before .before .before .before .before .before .before .before .args .words .now) (c .before .before .before .before .before .before .before .before .before .before .before .before .before .before .args .step) (c .before .before .before .before .before .before .before .before .before .before .before .before .before .before .args .size) (c .before .before .before .before .before .before .before .before .before .before .before .search .i) (c .before .before .before .loop .j)
+    ≡ c .pair-free .result
+tested c =
+    let p = c .before .before .before .before .before .before .before .before .before .before .before .before .before .before .pre .0 in
+    runs-swept (c .before .before .before .before .before .before .before .before .before .before .before .before .before .before .args .size) _ _ (omega arith) (rising (c .before .before)) (second-in (c .before .before)) (c .before .before .before .before .before .before .before .before .keep .ensures) (c .before .before .before .before .before .before .sweep-table .ensures)
+    ∙ sym (c .pair-free .ensures)
 
 search-holds : tie.Need-search-holds Inv-loop μ-loop Inv-search μ-search
 unfolding firstFailing
-search-holds c = (omega arith, refl, ap (fromRow _ _ _ 0) (sym (sub-zero (c .before .args .count))))
+search-holds c = (omega arith, c .before .before .pre .1, refl, ap (fromRow _ _ _ 0) (sym (sub-zero (c .before .before .args .count))))
 
-mul-window-basis : tie.Need-mul-window-basis Inv-loop μ-loop Inv-search μ-search
-mul-window-basis c =
-    let s = c .before .before .before in
-    omega (arith, start-fits (c .before .search .i) (s .args .count) (s .args .step) (s .args .size) (length (s .args .words .now)) (c .search-test .taken) (s .pre .2))
+mul-first : tie.Need-mul-first Inv-loop μ-loop Inv-search μ-search
+mul-first c = let w = first-in c in omega arith
 
-window-basis-requires : tie.Need-window-basis-requires Inv-loop μ-loop Inv-search μ-search
-window-basis-requires c κs =
-    let s = c .before .before .before in
-    start-fits (c .before .search .i) (s .args .count) (s .args .step) (s .args .size) (length (s .args .words .now)) (c .search-test .taken) (s .pre .2)
+add-keep : tie.Need-add-keep Inv-loop μ-loop Inv-search μ-search
+add-keep c = let w = first-in c in omega arith
+
+mul-keep : tie.Need-mul-keep Inv-loop μ-loop Inv-search μ-search
+mul-keep c = let w = first-in c in omega arith
+
+sub-keep : tie.Need-sub-keep Inv-loop μ-loop Inv-search μ-search
+sub-keep c = search needs
+
+part-keep-start : tie.Need-part-keep-start Inv-loop μ-loop Inv-search μ-search
+part-keep-start c = search needs
+
+part-keep-end : tie.Need-part-keep-end Inv-loop μ-loop Inv-search μ-search
+part-keep-end c = let w = first-in c in omega arith
+
+keep-requires : tie.Need-keep-requires Inv-loop μ-loop Inv-search μ-search
+keep-requires c κs = search needs
+
+add-sweep-table : tie.Need-add-sweep-table Inv-loop μ-loop Inv-search μ-search
+add-sweep-table c = let w = first-in (c .before .before) in omega arith
+
+sweep-table-requires : tie.Need-sweep-table-requires Inv-loop μ-loop Inv-search μ-search
+sweep-table-requires c κs = (kept-most (c .before .keep .ensures), c .before .keep .ensures .size, first-in (c .before .before .before), c .before .before .before .before .search .inv .1)
 
 loop-holds : tie.Need-loop-holds Inv-loop μ-loop Inv-search μ-search
-loop-holds c = (
-  omega arith,
-  omega arith,
-  c .before .before .search .inv .1,
-  c .before .before .search .inv .2 ∙ rows-next _ (λ k. k) _ (c .before .before .search .i) (c .before .search-test .taken),
-)
+loop-holds c =
+    let a = c .before .before .before .before .before .before .before .search in
+    (omega arith, omega arith, a .inv .2, a .inv .3 ∙ rows-next _ (λ k. k) _ (a .i) (c .before .before .before .before .before .before .search-test .taken))
 
 mul-pair-free : tie.Need-mul-pair-free Inv-loop μ-loop Inv-search μ-search
-mul-pair-free c =
-    let s = c .before .before .before .before .before .before in
-    omega (
-      arith,
-      start-fits (c .before .before .before .before .search .i) (s .args .count) (s .args .step) (s .args .size) (length (s .args .words .now))
-          (c .before .before .before .search-test .taken) (s .pre .2),
-    )
-
-mul-pair-free-2 : tie.Need-mul-pair-free-2 Inv-loop μ-loop Inv-search μ-search
-mul-pair-free-2 c =
-    let s = c .before .before .before .before .before .before in
-    omega (arith, start-fits (c .before .loop .j) (s .args .count) (s .args .step) (s .args .size) (length (s .args .words .now)) (c .loop-test .taken) (s .pre .2))
+mul-pair-free c = let w = second-in (c .before) in omega arith
 
 pair-free-requires : tie.Need-pair-free-requires Inv-loop μ-loop Inv-search μ-search
 pair-free-requires c κs =
-    let s = c .before .before .before .before .before .before in (
-      (
-        mul-le-mul-right (s .args .step) (c .before .loop .inv .0),
-        start-fits (c .before .loop .j) (s .args .count) (s .args .step) (s .args .size) (length (s .args .words .now)) (c .loop-test .taken) (s .pre .2),
-      ),
-      c .before .before .window-basis .ensures,
-    )
+    let p = c .before .before .before .before .before .before .before .before .before .before .before .before .before .pre .0 in
+    let n = c .before .before .before .before .before .sweep-table .ensures .size in
+    (omega arith, rising (c .before), omega (arith, second-in (c .before), n))
 
 add-j : tie.Need-add-j Inv-loop μ-loop Inv-search μ-search
-add-j c = omega arith
+add-j c = search needs
 
 loop-less : tie.Need-loop-less Inv-loop μ-loop Inv-search μ-search
-loop-less c = omega arith
+loop-less c = search needs
 
 loop-again : tie.Need-loop-again Inv-loop μ-loop Inv-search μ-search
 loop-again c =
-    let l = c .before .before .before .loop in (
+    let l = c .before .before .before .before .loop in (
       omega arith,
       omega arith,
       l .inv .2,
-      l .inv .3 ∙ row-next _ _ _ (l .j) _ (c .before .before .loop-test .taken) (sym (c .before .pair-free .ensures) ∙ not-false _ (c .if1 .left)),
+      l .inv .3 ∙ row-next _ _ _ (l .j) _ (c .before .before .before .loop-test .taken) (tested (c .before) ∙ not-false _ (c .if1 .left)),
     )
 
 add-i : tie.Need-add-i Inv-loop μ-loop Inv-search μ-search
-add-i c = omega arith
+add-i c = search needs
 
 search-less : tie.Need-search-less Inv-loop μ-loop Inv-search μ-search
-search-less c = omega arith
+search-less c = search needs
 
 search-again : tie.Need-search-again Inv-loop μ-loop Inv-search μ-search
 search-again c =
-    (omega arith, c .before .loop .inv .2, c .before .loop .inv .3 ∙ row-end _ _ _ _ _ (c .loop-test .left))
+    let l = c .before .loop in
+    (omega arith, c .before .before .before .before .sweep-table .ensures .size, l .inv .2, l .inv .3 ∙ row-end _ _ _ _ _ (c .loop-test .left))
+
+same-length : tie.Need-same-length Inv-loop μ-loop Inv-search μ-search
+same-length c = search needs
 
 returns : tie.Need-returns Inv-loop μ-loop Inv-search μ-search
-returns c = c .before .search .inv .1 ∙ sym (c .before .search .inv .2 ∙ rows-end _ _ _ _ (c .search-test .left))
+returns c = c .before .search .inv .2 ∙ sym (c .before .search .inv .3 ∙ rows-end _ _ _ _ (c .search-test .left))
+
+same-length-2 : tie.Need-same-length-2 Inv-loop μ-loop Inv-search μ-search
+same-length-2 c = search needs
 
 returns-2 : tie.Need-returns-2 Inv-loop μ-loop Inv-search μ-search
 returns-2 c =
-    let l = c .before .before .before .loop in
-    sym (l .inv .3 ∙ row-fails _ _ _ (l .j) _ (c .before .before .loop-test .taken) (sym (c .before .pair-free .ensures) ∙ not-true _ (c .if1 .taken)))
+    let l = c .before .before .before .before .loop in
+    sym (l .inv .3 ∙ row-fails _ _ _ (l .j) _ (c .before .before .before .loop-test .taken) (tested (c .before) ∙ not-true _ (c .if1 .taken)))
 
 pub search-spec : {M : Type 1} → statement M
 search-spec =
@@ -122,11 +146,17 @@ search-spec =
     Inv-search
     μ-search
     search-holds
-    mul-window-basis
-    window-basis-requires
+    mul-first
+    add-keep
+    mul-keep
+    sub-keep
+    part-keep-start
+    part-keep-end
+    keep-requires
+    add-sweep-table
+    sweep-table-requires
     loop-holds
     mul-pair-free
-    mul-pair-free-2
     pair-free-requires
     add-j
     loop-less
@@ -134,5 +164,7 @@ search-spec =
     add-i
     search-less
     search-again
+    same-length
     returns
+    same-length-2
     returns-2)

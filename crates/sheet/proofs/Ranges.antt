@@ -1,0 +1,129 @@
+-- The answers of writing and reading are small: each field fits its bits.
+--
+--   write-fits    number and places of writing
+--   read-fits     number and places of reading
+--   report-fits   the reader's five numbers
+--
+-- Assumes nothing.
+use mathlib.Core.Path.{_≡_, refl}
+use mathlib.Core.Bool.{Bool, true, false, not, cond}
+use mathlib.Core.List.{List}
+use Prim.Native.Nat.{ℕ, _<_, _≤_}
+use native.Mathlib.Omega.{arith}
+use borrow.Author.Tests.{eqb-true}
+use lib.Dec.{eqb}
+use lib.ListN.{length}
+use Rattle.layout.specs.Cells.{rowBytes, sheetBytes, firstUnused, cellOf}
+use Rattle.boxcode.specs.Code.{Code, Formed}
+use Rattle.boxcode.specs.Check.{dataSize}
+use Rattle.boxcode.specs.Reader.{mendable, change, reportOf}
+use Rattle.boxcode.proofs.Reader.{change-burst}
+use Rattle.boxcode.proofs.Report.{burst-report}
+use Rattle.plan.specs.declared.verdict.Verdict.{Verdict}
+use Rattle.plan.specs.Verdict.{refusal, verdictIf, accepted, _orElse_}
+use Rattle.plan.specs.Bytes.{codeOf}
+use Rattle.plan.specs.Form.{verdictAt}
+use Rattle.accept.specs.Verdict.{planVerdict}
+use Rattle.accept.proofs.Acceptance.{accepted-plan}
+use Rattle.accept.proofs.Range.{Fits, accepted-fits, else-fits, if-fits, at-fits, plan-fits}
+use Rattle.buffers.specs.Buffers.{lengthVerdict, unusedVerdict, writeChecks, readChecks}
+use Rattle.buffers.proofs.Passing.{bytes-most, size-most}
+use Rattle.mend.specs.declared.report.Report.{Report}
+use Rattle.mend.specs.Report.{noReport, reportAs}
+use Rattle.reader.proofs.Cases.{zero-reads}
+use Rattle.reader.specs.Read.{readVerdict, reportRead, taken, refused, readOutcome}
+
+length-fits : (n : ℕ) (s : List ℕ) (size : ℕ) → n < 32 → Fits (lengthVerdict n s size)
+unfolding lengthVerdict
+length-fits n s size l =
+    if-fits (not (eqb (length s) size)) (refusal n 0 0) (λ _. record { number-fits = l; p-fits = omega arith; q-fits = omega arith })
+
+unused-fits : (n1 n2 : ℕ) (s : List ℕ) → sheetBytes n1 n2 ≤ 45056 → Fits (unusedVerdict n1 n2 s)
+unfolding unusedVerdict
+unused-fits n1 n2 s u =
+    at-fits (sheetBytes n1 n2) (firstUnused n1 n2 s) (refusal 13 (firstUnused n1 n2 s) 0)
+    (λ l. record { number-fits = omega arith; p-fits = omega arith; q-fits = omega arith })
+
+-- the checks of the buffers, after those of the plan
+checks-fit : (plan sheet bits : List ℕ) (v : Verdict) → (Formed (codeOf plan) → Fits v)
+    → Fits (planVerdict plan orElse lengthVerdict 11 sheet (sheetBytes (codeOf plan .n1) (codeOf plan .n2))
+    orElse lengthVerdict 12 bits (rowBytes (dataSize (codeOf plan))) orElse v)
+checks-fit plan sheet bits v f =
+    else-fits (planVerdict plan) (eleven orElse twelve orElse v) (plan-fits plan)
+    (λ e. else-fits eleven (twelve orElse v) (length-fits 11 sheet (sheetBytes (codeOf plan .n1) (codeOf plan .n2)) (omega arith))
+    (λ _. else-fits twelve v (length-fits 12 bits (rowBytes (dataSize (codeOf plan))) (omega arith)) (λ _. f (accepted-plan plan e .formed))))
+  where
+    eleven : Verdict
+    eleven = lengthVerdict 11 sheet (sheetBytes (codeOf plan .n1) (codeOf plan .n2))
+
+    twelve : Verdict
+    twelve = lengthVerdict 12 bits (rowBytes (dataSize (codeOf plan)))
+
+data-bytes : (k : ℕ) → k ≤ 357376 → sheetBytes 1 k ≤ 45056
+unfolding sheetBytes rowBytes
+data-bytes k l = omega arith
+
+sheet-bytes : (plan : List ℕ) → Formed (codeOf plan) → sheetBytes (codeOf plan .n1) (codeOf plan .n2) ≤ 45056
+unfolding sheetBytes
+sheet-bytes plan F = bytes-most plan (rowBytes (codeOf plan .n2)) F refl
+
+pub write-fits : (plan bits sheet : List ℕ) → Fits (writeChecks plan bits sheet)
+unfolding writeChecks
+write-fits plan bits sheet =
+    checks-fit plan sheet bits (unusedVerdict 1 (dataSize (codeOf plan)) bits)
+    (λ F. unused-fits 1 (dataSize (codeOf plan)) bits (data-bytes (dataSize (codeOf plan)) (size-most plan F)))
+
+reads-fit : (plan sheet bits : List ℕ) → Fits (readChecks plan sheet bits)
+unfolding readChecks
+reads-fit plan sheet bits =
+    checks-fit plan sheet bits (unusedVerdict (codeOf plan .n1) (codeOf plan .n2) sheet)
+    (λ F. unused-fits (codeOf plan .n1) (codeOf plan .n2) sheet (sheet-bytes plan F))
+
+pub read-fits : (plan sheet bits : List ℕ) → Fits (readOutcome plan sheet bits .verdict)
+unfolding readOutcome readVerdict
+read-fits plan sheet bits =
+    go (eqb (readVerdict plan sheet bits .number) 0)
+    (else-fits (readChecks plan sheet bits) (verdictIf (not m) (refusal 14 0 0)) (reads-fit plan sheet bits)
+    (λ _. if-fits (not m) (refusal 14 0 0) (λ _. record { number-fits = omega arith; p-fits = omega arith; q-fits = omega arith })))
+  where
+    m : Bool
+    m = mendable (codeOf plan) (cellOf (codeOf plan .n2) sheet)
+
+    go : (t : Bool) → Fits (readVerdict plan sheet bits)
+        → Fits (cond t (taken (codeOf plan) sheet) (refused (readVerdict plan sheet bits) sheet bits) .verdict)
+    go true f = accepted-fits
+    go false f = f
+
+-- the five numbers fit their bits
+pub record FiveFit (r : Report) : Type 0 where
+  pub cells-fits : r .cells < 32
+  pub top-fits : r .top < 512
+  pub left-fits : r .left < 1024
+  pub height-fits : r .height < 8
+  pub width-fits : r .width < 8
+
+none-fits : FiveFit (reportAs noReport)
+none-fits = record { cells-fits = omega arith; top-fits = omega arith; left-fits = omega arith; height-fits = omega arith; width-fits = omega arith }
+
+burst-fits : (c : Code) → Formed c → (sheet : List ℕ) → mendable c (cellOf (c .n2) sheet) ≡ true → FiveFit (reportRead c sheet)
+unfolding reportRead
+burst-fits c F sheet e =
+    let s = burst-report c F (change c (cellOf (c .n2) sheet)) (change-burst c F (cellOf (c .n2) sheet) e) in
+    record {
+      cells-fits = omega (arith, s .cells-most);
+      top-fits = omega (arith, s .top-on, F .n1-most);
+      left-fits = omega (arith, s .left-on, F .n2-most);
+      height-fits = omega (arith, s .height-most, F .b1-most);
+      width-fits = omega (arith, s .width-most, F .b2-most);
+    }
+
+pub report-fits : (plan sheet bits : List ℕ) → FiveFit (readOutcome plan sheet bits .report)
+unfolding readOutcome
+report-fits plan sheet bits = go (eqb (readVerdict plan sheet bits .number) 0) refl
+  where
+    go : (t : Bool) → eqb (readVerdict plan sheet bits .number) 0 ≡ t
+        → FiveFit (cond t (taken (codeOf plan) sheet) (refused (readVerdict plan sheet bits) sheet bits) .report)
+    go true e =
+        let z = zero-reads plan sheet bits (eqb-true (readVerdict plan sheet bits .number) 0 e) in
+        burst-fits (codeOf plan) (z .0 .accepted .formed) sheet (z .1)
+    go false e = none-fits
