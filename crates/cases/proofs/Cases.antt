@@ -1,13 +1,11 @@
--- Every row of the table holds: the definitions are run on each and compared.
+-- Every case of the table holds: the definitions are run on each, and the table of what comes of it is the table itself.
 --
---   answers     what the definitions answer to each row's plan
---   expected    what the table says
---   cases-hold  the two are equal
+--   run         a case with what the definitions answer in place of what the table says
+--   cases-hold  running changes nothing
 --
 -- Assumes nothing.
 use mathlib.Core.Path.{_≡_, refl}
-use mathlib.Core.List.{List, map}
-use Rattle.plan.specs.declared.verdict.Verdict.{Verdict}
+use mathlib.Core.List.{map}
 use Rattle.accept.specs.Verdict.{planVerdict, conditionsVerdict, rowsVerdict, columnsVerdict, checksVerdict}
 use Rattle.accept.specs.Pairs.{inRow, fromRow, firstFailing}
 use Rattle.plan.specs.Verdict.{_orElse_}
@@ -21,14 +19,26 @@ use Rattle.gf2.specs.Independence.{spanned, free}
 use Rattle.boxcode.specs.Code.{rowWeight, columnWeight, jointWeight, checkJoint}
 use Rattle.boxcode.specs.Condition.{rowMember, columnMember, columnDifference, stripEntry, rowPairFree, columnPairFree}
 use Rattle.cases.specs.Plans.{S, T, planS, planT, planBytes}
-use Rattle.cases.specs.Table.{Row, rows}
+use Rattle.finite.specs.Search.{bit, numberOf, anyBelow, countBelow, firstOf, pastOf}
+use Rattle.gf2.specs.Xor.{pick}
+use Rattle.gf2.specs.Sum.{xorSum}
+use Rattle.layout.specs.Cells.{rowBytes, sheetBytes, byteOf, cellOf, usedBits, unusedAt, firstUnused, tabulate, byteFrom, bytesOf}
+use Rattle.boxcode.specs.Code.{cellNumber}
+use Rattle.boxcode.specs.Syndrome.{weightSum, rowSyndrome, columnSyndrome}
+use Rattle.boxcode.specs.Burst.{boxCells, patterns, lefts, trials, trialCells, tried, hasBurst, burstFor}
+use Rattle.boxcode.specs.Check.{checkNumber, checkAt, checkIndex, dataOrder, dataSize, rank, dataCell, fill, belongs, written, dataOf}
+use Rattle.boxcode.specs.Reader.{mendable, change, mended, cellsIn, inRow as rowHas, inColumn, reportOf}
+use Rattle.buffers.specs.Buffers.{lengthVerdict, unusedVerdict, writeChecks, readChecks}
+use Rattle.writer.specs.Write.{writtenBytes, write}
+use Rattle.reader.specs.Read.{readVerdict, sheetRead, bitsRead, reportRead, readOutcome}
+use mathlib.Core.Bool.{xor}
+use Rattle.cases.specs.Table.{Case, testing, writing, reading, table}
 
-abbrev pub answers : List Row → List Verdict
-answers rs = map (λ (r : Row). planVerdict (r .plan)) rs
+abbrev pub run : Case → Case
+run (testing plan v) = testing plan (planVerdict plan)
+run (writing plan bits sheet o) = writing plan bits sheet (write plan bits sheet)
+run (reading plan sheet bits o) = reading plan sheet bits (readOutcome plan sheet bits)
 
-abbrev pub expected : List Row → List Verdict
-expected rs = map (λ (r : Row). r .answer) rs
-
-pub cases-hold : answers rows ≡ expected rows
-unfolding rows S T planS planT planBytes planVerdict conditionsVerdict rowsVerdict columnsVerdict checksVerdict inRow fromRow firstFailing _orElse_ headerOf codeOf badBurst badSheet badWidths badOffsets fieldsVerdict headerVerdict firstLarge entriesVerdict rises badPair listVerdict formVerdict u16At u32At least within place _⊕_ spanned free rowWeight columnWeight jointWeight checkJoint rowMember columnMember columnDifference stripEntry rowPairFree columnPairFree
+pub cases-hold : map run table ≡ table
+unfolding table S T planS planT planBytes planVerdict conditionsVerdict rowsVerdict columnsVerdict checksVerdict inRow fromRow firstFailing _orElse_ headerOf codeOf badBurst badSheet badWidths badOffsets fieldsVerdict headerVerdict firstLarge entriesVerdict rises badPair listVerdict formVerdict u16At u32At least within place _⊕_ spanned free rowWeight columnWeight jointWeight checkJoint rowMember columnMember columnDifference stripEntry rowPairFree columnPairFree bit numberOf anyBelow countBelow firstOf pastOf pick xorSum rowBytes sheetBytes byteOf cellOf usedBits unusedAt firstUnused tabulate byteFrom bytesOf cellNumber weightSum rowSyndrome columnSyndrome boxCells patterns lefts trials trialCells tried hasBurst burstFor checkNumber checkAt checkIndex dataOrder dataSize rank dataCell fill belongs written dataOf mendable change mended cellsIn rowHas inColumn reportOf lengthVerdict unusedVerdict writeChecks readChecks writtenBytes write readVerdict sheetRead bitsRead reportRead readOutcome xor
 cases-hold = refl

@@ -1,0 +1,89 @@
+-- What is read from a sheet of the right form, under an accepted plan and with a data buffer of the right length:
+--
+--   reads-mended, reads-refused   by whether the sheet is mendable
+--   none-or-some                  no burst fits it, or some burst does
+--   taken-as                      where a burst fits: the sheet with its cells turned over, the data of that sheet, its report
+--   refused-as                    where none does: number 14, and both buffers as they were
+--
+-- Assumes nothing.
+use mathlib.Core.Path.{_≡_, sym, ap, _∙_}
+use mathlib.Core.Bool.{true, false, xor}
+use mathlib.Core.Logic.{_⊎_, inl, inr}
+use mathlib.Core.List.{List}
+use Prim.Native.Nat.{ℕ}
+use Rattle.finite.proofs.Truth.{Truth, is-true, is-false, true-or-false}
+use Rattle.layout.proofs.Form.{bytes-equal}
+use Rattle.boxcode.specs.Code.{Code}
+use Rattle.boxcode.specs.Syndrome.{Cells, flip, SameCells}
+use Rattle.boxcode.specs.Check.{dataSize, dataOf}
+use Rattle.boxcode.specs.Reader.{mendable, change, mended, reportOf}
+use Rattle.boxcode.proofs.Condition.{separated}
+use Rattle.boxcode.proofs.Fill.{data-cells}
+use Rattle.boxcode.proofs.Reader.{fits-mendable, unmendable, none-fits, change-burst, change-fits, change-is}
+use Rattle.boxcode.proofs.Report.{report-cells}
+use Rattle.plan.specs.Verdict.{accepted, refusal, _orElse_}
+use Rattle.plan.specs.Bytes.{codeOf}
+use Rattle.accept.specs.Verdict.{Accepted}
+use Rattle.buffers.specs.Buffers.{readChecks}
+use Rattle.buffers.proofs.Passing.{reads-pass}
+use Rattle.mend.specs.Report.{reportAs}
+use Rattle.reader.specs.Read.{refused, taken, readVerdict, sheetRead, bitsRead, reportRead, readOutcome}
+use Rattle.promise.specs.Promise.{SheetFor, BufferFor, BurstOn, FitsOn, NoneFits, SomeFits, cellsOf, dataIn, blotted, readAs}
+use Rattle.promise.proofs.Blotted.{blotted-cell, fits-cells, cells-fit}
+
+module _ (plan : List ℕ) (A : Accepted plan) (sheet old : List ℕ) (form : SheetFor plan sheet) (l : BufferFor plan old) where
+  abbrev c : Code
+  c = codeOf plan
+
+  abbrev s : Cells
+  s = cellsOf plan sheet
+
+  checks : readChecks plan sheet old ≡ accepted
+  checks = reads-pass plan sheet old (record { accepted = A; sheet-size = form .size; bits-size = l; form = form })
+
+  pub reads-mended : mendable c s ≡ true → readOutcome plan sheet old ≡ taken c sheet
+  unfolding readOutcome readVerdict _orElse_
+  reads-mended t = rw (checks, t)
+
+  pub reads-refused : mendable c s ≡ false → readOutcome plan sheet old ≡ refused (refusal 14 0 0) sheet old
+  unfolding readOutcome readVerdict _orElse_
+  reads-refused t = rw (checks, t)
+
+  pub refused-as : NoneFits plan sheet → readOutcome plan sheet old ≡ refused (refusal 14 0 0) sheet old
+  refused-as h = reads-refused (none-fits c (A .formed) s (λ e B f. h e B (cells-fit plan sheet e f)))
+
+  pub none-or-some : NoneFits plan sheet ⊎ SomeFits plan sheet
+  none-or-some = go (true-or-false (mendable c s))
+    where
+      go : Truth (mendable c s) → NoneFits plan sheet ⊎ SomeFits plan sheet
+      go (is-true t) = inr (change c s, change-burst c (A .formed) s t, cells-fit plan sheet (change c s) (change-fits c (A .formed) s t))
+      go (is-false t) = inl (λ e B f. unmendable c (A .formed) s t e B (fits-cells plan sheet e f))
+
+  module _ (e : Cells) (B : BurstOn plan e) (f : FitsOn plan sheet e) where
+    -- the burst that fits is the one that is found
+    changed : (i j : ℕ) → change c s i j ≡ e i j
+    changed = change-is c (A .formed) s (separated c (A .formed) (A .conditions)) e B (fits-cells plan sheet e f)
+
+    mended-cells : SameCells c (mended c s) (flip s e)
+    unfolding mended
+    mended-cells i j li lj = ap (xor (s i j)) (changed i j)
+
+    same-report : reportOf c (change c s) ≡ reportOf c e
+    same-report = report-cells c (change c s) e (λ i j li lj. changed i j)
+
+    same-sheet : sheetRead c sheet ≡ blotted plan sheet e
+    unfolding sheetRead blotted
+    same-sheet = bytes-equal (c .n1) (c .n2) (mended c s) (flip s e) mended-cells
+
+    same-bits : bitsRead c sheet ≡ dataIn plan (blotted plan sheet e)
+    unfolding bitsRead dataIn
+    same-bits =
+        let t = cellsOf plan (blotted plan sheet e) in
+        bytes-equal 1 (dataSize c) (λ i d. dataOf c (mended c s) d) (λ i d. dataOf c t d)
+        (λ i d li ld. data-cells c (A .formed) (mended c s) t (λ i j li lj. mended-cells i j li lj ∙ sym (blotted-cell plan sheet e i j li lj)) d ld)
+
+    pub taken-as : readOutcome plan sheet old ≡ readAs (reportOf c e) (blotted plan sheet e) (dataIn plan (blotted plan sheet e))
+    unfolding reportRead
+    taken-as =
+        reads-mended (fits-mendable c (A .formed) s e B (fits-cells plan sheet e f))
+        ∙ λ i. record { verdict = accepted; report = reportAs (same-report i); sheet = same-sheet i; bits = same-bits i }

@@ -1,0 +1,2 @@
+-- What the three calls promise together.
+pub mod Promise
