@@ -7,7 +7,9 @@ LIB := target/staticlib/libsheet.a
 .PHONY: run test lib bench clean
 
 run: lib
-	@tests/show-plan-test
+	@mkdir -p build
+	@gcc -std=c99 -O2 -Iinclude examples/host.c $(LIB) -o build/host
+	@build/host
 
 test:
 	@tests/run
@@ -19,7 +21,7 @@ $(LIB): crates.txt $(shell find crates -name '*.rt' -o -name '*.antt')
 	@test -s $@
 
 bench: lib
-	cd tests && SHEET_LIB_DIR=$(CURDIR)/target/staticlib cargo run --release --offline --quiet --bin bench
+	cd tests && SHEET_LIB_DIR=$(CURDIR)/target/staticlib cargo run --release --offline --quiet --features calls --bin bench
 
 clean:
 	rm -rf target build
