@@ -1,13 +1,13 @@
 -- The windows of the unpacked row table are the windows of the code.
 --
 --   window-run      the positions of a window of rows are a run of the table
---   windows-fit     all windows together fill it
+--   windows-spread  all windows together fill it
 --   row-windows     the pair test on the words is the pair test of the code
 --   rows-search     so the first failing pair is the same
 --
 -- Assumes nothing.
-use mathlib.Core.Path.{_≡_, refl, sym, ap, ap₂, _∙_}
-use mathlib.Core.Bool.{Bool, true, false, _||_}
+use mathlib.Core.Path.{_≡_, sym, ap, ap₂, _∙_}
+use mathlib.Core.Bool.{_||_}
 use mathlib.Core.List.{List}
 use Prim.Native.Nat.{ℕ, suc, _+_, _-_, _*_, _/_, _≤_, _<_}
 use native.Mathlib.Nat.{le-div-iff-mul-le, div-lt-iff-lt-mul, add-mul, mul-le-mul-right, suc-mul}
@@ -19,7 +19,7 @@ use Rattle.gf2.proofs.Vectors.{free-two-runs}
 use Rattle.boxcode.specs.Code.{Code}
 use Rattle.boxcode.specs.Condition.{rowMember, rowPairFree}
 use Rattle.accept.specs.Pairs.{firstFailing}
-use Rattle.accept.specs.Tables.{windowsFree, runsFree}
+use Rattle.accept.specs.Tables.{windowsFree, runsFree, spread}
 use Rattle.accept.proofs.Pairing.{pairs-equal}
 
 pub window-run : (i m b k : ℕ) → 0 < b → within i m (k / b) ≡ within (i * b) (m * b) k
@@ -30,11 +30,13 @@ window-run i m b k p =
     (λ e. in-within i m (k / b) (le-div-iff-mul-le p .1 (within-from (i * b) (m * b) k e))
     (div-lt-iff-lt-mul p .1 (let u = within-to (i * b) (m * b) k e in omega (arith, u, add-mul i m b))))
 
--- all windows lie in the table
-pub windows-fit : (n b step : ℕ) → b ≤ n → (n - b + 1) * step + b * step ≡ n * step + step
-windows-fit n b step l =
+-- all windows together are the table
+pub windows-spread : (n b step : ℕ) → b ≤ n → spread step (b * step) (n - b + 1) ≡ n * step
+unfolding spread
+windows-spread n b step l =
     let e : n - b + 1 + b ≡ suc n = omega arith in
-    sym (add-mul (n - b + 1) b step) ∙ ap (λ (x : ℕ). x * step) e ∙ suc-mul n step
+    let f = sym (add-mul (n - b + 1) b step) ∙ ap (λ (x : ℕ). x * step) e ∙ suc-mul n step in
+    omega arith
 
 module _ (c : Code) (words : List ℕ) (pos : 0 < c .b2) (fits : c .n1 * c .b2 ≤ length words)
     (same : (k : ℕ) → k < c .n1 * c .b2 → c .rowEntry k ≡ getD words k 0) where

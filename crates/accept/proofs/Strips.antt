@@ -13,23 +13,21 @@
 --
 -- Assumes nothing.
 use mathlib.Core.Path.{_≡_, refl, sym, ap, ap₂, _∙_}
-use mathlib.Core.Bool.{Bool, true, false, not, cond}
 use mathlib.Core.List.{List, [], _∷_, _++_, append-nil, append-assoc}
-use Prim.Native.Nat.{ℕ, zero, suc, _+_, _-_, _*_, _/_, _%_, _^_, _≤_, _<_}
-use native.Mathlib.Nat.{mod-lt, mod-eq-of-lt, add-mod-right, mul-le-mul-right, suc-mul, mul-comm, add-suc, add-zero, zero-mul}
-use native.Mathlib.Decide.{decLt}
+use Prim.Native.Nat.{ℕ, zero, suc, _+_, _-_, _*_, _/_, _%_, _≤_, _<_}
+use native.Mathlib.Nat.{mod-lt, mod-eq-of-lt, add-mod-right, mul-le-mul-right, suc-mul, add-suc, add-zero, zero-mul}
 use native.Mathlib.Numerals.{add-one}
 use native.Mathlib.Omega.{arith}
 use borrow.Author.Tests.{eq-eqb, ne-eqb}
 use lib.Arith.{digits-div, digits-mod, digits-lt}
 use lib.Dec.{eqb}
 use lib.Bits.{bitXor}
-use lib.ListN.{length, getD, take, set, length-append, List·getD-append}
-use lib.Seq.{take-suc-set, length-take-le, getD-append-seam}
+use lib.ListN.{length, getD, take, set}
+use lib.Seq.{take-suc-set, length-take-le}
 use Rattle.finite.specs.Search.{place}
 use Rattle.finite.proofs.Digits.{place-to}
 use Rattle.gf2.specs.Xor.{_⊕_}
-use Rattle.gf2.proofs.Xor.{xor-is, xor-below}
+use Rattle.gf2.proofs.Xor.{xor-is}
 use Rattle.gf2.specs.Vectors.{listed, freeFrom}
 use Rattle.gf2.specs.Swept.{KeptOf}
 use Rattle.gf2.specs.declared.Kept.{Kept}

@@ -2,31 +2,35 @@
 --
 --   start-fits       the window at i lies in the table
 --   part-length      a run has as many entries as it says
---   swept-next       one word more of a table is swept
+--   entries-length, entries-at, entries-next   the entries of a plan, and one more
+--   Changed, changed-start, changed-next   a table whose words are changed one after another
 --   kept-most        at most 64 are kept
 --   run-free         a run is free where all of it is kept
 --   runs-swept       two runs are free where all of the first are kept and the rest of the second is free as they leave it
 --
 -- Assumes nothing.
 use mathlib.Core.Path.{_≡_, refl, sym, ap, ap₂, _∙_}
-use mathlib.Core.Bool.{Bool, _&&_}
+use mathlib.Core.Bool.{_&&_}
 use mathlib.Core.List.{List, [], _∷_, _++_, map}
 use Prim.Native.Nat.{ℕ, zero, suc, _+_, _-_, _*_, _≤_, _<_, max}
 use native.Mathlib.Nat.{mul-le-mul-right, suc-mul}
-use native.Mathlib.Decide.{ℕ-discrete}
+use native.Mathlib.Decide.{decLt, ℕ-discrete}
+use native.Mathlib.Numerals.{add-one}
 use native.Mathlib.Omega.{arith}
 use lib.Dec.{eqb}
-use lib.ListN.{length, getD, take, drop, set, length-take, length-drop, length-map}
-use lib.Seq.{getD-take, getD-drop, getD-set-same, getD-set-other, ext-getD}
+use lib.ListN.{length, getD, take, drop, set, length-set, length-append, List·getD-append, length-take, length-drop, length-map}
+use lib.Seq.{take-suc-set, getD-append-seam, getD-take, getD-drop, getD-set-same, getD-set-other, ext-getD}
+use Rattle.layout.specs.Number.{u32At}
 use Rattle.gf2.specs.declared.Kept.{Kept}
 use Rattle.gf2.specs.Vectors.{freeFrom, part}
 use Rattle.gf2.specs.Swept.{swept, KeptOf}
 use Rattle.gf2.proofs.Vectors.{taken-le}
 use Rattle.gf2.proofs.Keeping.{kept-free, kept-append}
-use Rattle.accept.specs.Tables.{runsFree, sweptFree, SweptFrom, AllWindows}
+use Rattle.accept.specs.Tables.{runsFree, sweptFree, entriesAt, spread, SweptFrom}
 
-pub start-fits : {n step size count : ℕ} (i : ℕ) → AllWindows n step size count → i < count → i * step + size ≤ n
-start-fits {n} {step} {size} {count} i w l = omega (arith, mul-le-mul-right step l, suc-mul i step, w .inside)
+pub start-fits : (i step size count : ℕ) → i < count → i * step + size ≤ spread step size count
+unfolding spread
+start-fits i step size count l = omega (arith, mul-le-mul-right step l, suc-mul i step)
 
 pub part-length : (a b : ℕ) (t : List ℕ) → a ≤ b → b ≤ length t → length (part a b t) ≡ b - a
 part-length a b t l u = simp (length-take, length-drop) (omega arith)
@@ -51,15 +55,50 @@ part-mapped g a b words t l u e h =
     (λ k lk. map-at g (part a b words) k (omega arith) ∙ ap g (part-at a b words k (omega arith))
     ∙ sym (part-at a b t k (omega arith) ∙ h (a + k) (omega arith) (omega arith)))
 
--- one word more is swept
-pub swept-next :
-    (g : ℕ → ℕ) (words t : List ℕ) (from k : ℕ) → k < length t → ((n : ℕ) → from ≤ n → n < k → getD t n 0 ≡ g (getD words n 0))
-    → (v : ℕ) → v ≡ g (getD words k 0) → (n : ℕ) → from ≤ n → n < k + 1 → getD (set t k v) n 0 ≡ g (getD words n 0)
-swept-next g words t from k l h v e n f u = go (ℕ-discrete n k)
+pub entries-length : (s : List ℕ) (at n : ℕ) → length (entriesAt s at n) ≡ n
+unfolding entriesAt
+entries-length s at zero = refl
+entries-length s at (suc n) = length-append (entriesAt s at n) (u32At s (at + 4 * n) ∷ []) ∙ omega (arith, entries-length s at n)
+
+pub entries-at : (s : List ℕ) (at n k : ℕ) → k < n → getD (entriesAt s at n) k 0 ≡ u32At s (at + 4 * k)
+unfolding entriesAt
+entries-at s at zero k l = absurd (omega arith)
+entries-at s at (suc n) k l = go (decLt k n) (entries-at s at n k)
   where
-    go : Dec (n ≡ k) → getD (set t k v) n 0 ≡ g (getD words n 0)
-    go (yes p) = rw p (getD-set-same t k v 0 l ∙ e)
-    go (no p) = getD-set-other t k n v 0 p ∙ h n f (omega arith)
+    go : Dec (k < n) → (k < n → getD (entriesAt s at n) k 0 ≡ u32At s (at + 4 * k))
+        → getD (entriesAt s at n ++ (u32At s (at + 4 * n) ∷ [])) k 0 ≡ u32At s (at + 4 * k)
+    go (yes p) h = List·getD-append (entriesAt s at n) (u32At s (at + 4 * n) ∷ []) 0 k (omega (arith, entries-length s at n)) ∙ h p
+    go (no p) h =
+        let e : k ≡ n = omega arith in
+        let f : n ≡ length (entriesAt s at n) = sym (entries-length s at n) in
+        ap (λ (x : ℕ). getD (entriesAt s at n ++ (u32At s (at + 4 * n) ∷ [])) x 0) (e ∙ f)
+        ∙ getD-append-seam (entriesAt s at n) (u32At s (at + 4 * n)) [] 0 ∙ rw e
+
+-- one entry more is stored
+pub entries-next : (s : List ℕ) (at k : ℕ) (t : List ℕ) (x : ℕ) → k < length t → take k t ≡ entriesAt s at k → x ≡ u32At s (at + 4 * k)
+    → take (k + 1) (set t k x) ≡ entriesAt s at (k + 1)
+entries-next s at k t x l e h = rw (add-one k, take-suc-set t k x l, e, h) (unfold entriesAt in refl)
+
+-- the words of t that stand from a place on and before k are changed by g, and those from k on are not
+pub record Changed (g : ℕ → ℕ) (from k : ℕ) (t₀ t : List ℕ) : Type 0 where
+  pub size : length t ≡ length t₀
+  pub before : (n : ℕ) → from ≤ n → n < k → getD t n 0 ≡ g (getD t₀ n 0)
+  pub after : (n : ℕ) → k ≤ n → getD t n 0 ≡ getD t₀ n 0
+
+pub changed-start : (g : ℕ → ℕ) (from : ℕ) (t : List ℕ) → Changed g from from t t
+changed-start g from t = record { size = refl; before = λ n l u. absurd (omega arith); after = λ n l. refl }
+
+pub changed-next : {g : ℕ → ℕ} {from k : ℕ} {t₀ t : List ℕ} → Changed g from k t₀ t → k < length t₀ → (v : ℕ) → v ≡ g (getD t k 0)
+    → Changed g from (k + 1) t₀ (set t k v)
+changed-next {g} {from} {k} {t₀} {t} c l v e = record {
+  size = length-set t k v ∙ c .size;
+  before = λ n f u. go n f u (ℕ-discrete n k);
+  after = λ n u. getD-set-other t k n v 0 (λ p. omega arith) ∙ c .after n (omega arith);
+}
+  where
+    go : (n : ℕ) → from ≤ n → n < k + 1 → Dec (n ≡ k) → getD (set t k v) n 0 ≡ g (getD t₀ n 0)
+    go n f u (yes p) = rw p (getD-set-same t k v 0 (omega (arith, c .size)) ∙ e ∙ ap g (c .after k (omega arith)))
+    go n f u (no p) = getD-set-other t k n v 0 p ∙ c .before n f (omega arith)
 
 -- what is kept has room in 64 places
 pub kept-most : {ms : List ℕ} {r : Kept} → KeptOf ms r → r .taken ≤ 64
@@ -72,12 +111,13 @@ run-free a b t {r} l u s k =
     ap (eqb (r .taken)) (sym n) ∙ kept-free (part a b t) r (omega arith) k
 
 pub runs-swept :
-    {words t : List ℕ} {base : Kept} (size a b : ℕ) → size ≤ 64 → a ≤ b → b + size ≤ length words → KeptOf (part a (a + size) words) base
-    → SweptFrom base words (a + size) t → runsFree words size a b ≡ sweptFree (base .taken) t size a b
+    (all : List ℕ) {words t : List ℕ} {base : Kept} (size a b : ℕ) → words ≡ all → size ≤ 64 → a ≤ b → b + size ≤ length all
+    → KeptOf (part a (a + size) words) base → SweptFrom base words (a + size) t → runsFree all size a b ≡ sweptFree (base .taken) t size a b
 unfolding runsFree sweptFree
-runs-swept {words} {t} {base} size a b s l u k w =
+runs-swept all {words} {t} {base} size a b e s l u k w =
+    let f = ap length e in
     let n : length (part a (a + size) words) ≡ size = part-length a (a + size) words (omega arith) (omega arith) ∙ omega arith in
     let g = swept (take (base .taken) (base .words)) in
-    kept-append (part a (a + size) words) (part (max (a + size) b) (b + size) words) base (omega arith) k
+    rw (← e) (kept-append (part a (a + size) words) (part (max (a + size) b) (b + size) words) base (omega arith) k
     ∙ ap₂ (λ (x : ℕ) (y : List ℕ). eqb (base .taken) x && freeFrom [] y) n
-    (part-mapped g (max (a + size) b) (b + size) words t (omega arith) u (w .size) (λ k l′ u′. w .entry k (omega arith) u′))
+    (part-mapped g (max (a + size) b) (b + size) words t (omega arith) (omega arith) (w .size) (λ k l′ u′. w .entry k (omega arith) u′)))

@@ -2,7 +2,9 @@
 --
 --   runsFree words size a b           the entries of the runs of size entries from a and from b, each position once, are free
 --   windowsFree words step size i j   the same of windows number i and j, when one starts step entries after the other
---   AllWindows                        the windows lie in the table
+--   entriesAt s at n                  the n entries of 32 bits from a place of the plan s on
+--   spread step size count            the entries of count windows of size entries, each step entries after the one before
+--   Windows                           bounds on these
 --   SweptFrom base words from t       t has the words from a place on as a base of some members leaves them
 --   sweptFree taken t size a b        all of the first run are taken, and the rest of the second is free as it stands in t
 --   columnCode words b1 b2            a code with these words as its column table
@@ -10,9 +12,10 @@
 --   Strips, AllStrips                 two strips that lie in a table; all that do
 --   differences words from to k       the exclusive-ors of k words from two places on
 --   membersOf c a b r                 the members of the first r remainders of two strips
+--   Added out count ms end out′       the members ms are put after the first count words
 --   Members g ms                      the gathered members are ms
 --   Joint, Joints                     what is promised of a joint entry, and of an array of them
-use Prim.Native.Nat.{ℕ, zero, suc, _+_, _*_, _^_, _≤_, _<_, max}
+use Prim.Native.Nat.{ℕ, zero, suc, _+_, _-_, _*_, _^_, _≤_, _<_, max}
 use mathlib.Core.Path.{_≡_}
 use mathlib.Core.Bool.{Bool, _&&_}
 use mathlib.Core.List.{List, [], _∷_, _++_}
@@ -22,6 +25,7 @@ use Rattle.gf2.specs.Xor.{_⊕_}
 use Rattle.gf2.specs.Vectors.{freeFrom, listed, part}
 use Rattle.gf2.specs.Swept.{swept}
 use Rattle.gf2.specs.declared.Kept.{Kept}
+use Rattle.layout.specs.Number.{u32At}
 use Rattle.boxcode.specs.Code.{Code, checkJoint}
 use Rattle.boxcode.specs.Condition.{everyone, columnMember, columnDifference}
 use Rattle.accept.specs.declared.columns.Gathered.{Gathered}
@@ -32,12 +36,18 @@ runsFree words size a b = freeFrom [] (part a (a + size) words ++ part (max (a +
 abbrev pub windowsFree : List ℕ → ℕ → ℕ → ℕ → ℕ → Bool
 windowsFree words step size i j = runsFree words size (i * step) (j * step)
 
--- count windows of size entries, each step after the one before, lie in a table of n words
-pub record AllWindows (n step size count : ℕ) : Type 0 where
+unfoldable pub entriesAt : List ℕ → ℕ → ℕ → List ℕ
+entriesAt s at zero = []
+entriesAt s at (suc n) = entriesAt s at n ++ (u32At s (at + 4 * n) ∷ [])
+
+unfoldable pub spread : ℕ → ℕ → ℕ → ℕ
+spread step size count = count * step + size - step
+
+-- few windows of few entries
+pub record Windows (step size count : ℕ) : Type 0 where
   pub step-most : step ≤ 4
   pub size-most : size ≤ 16
   pub few : count ≤ 512
-  pub inside : count * step + size ≤ n + step
 
 -- from a place on the words of t are those of words as a base leaves them
 pub record SweptFrom (base : Kept) (words : List ℕ) (from : ℕ) (t : List ℕ) : Type 0 where
@@ -91,6 +101,11 @@ differences words from to (suc k) = differences words from to k ++ ((getD words 
 -- the members of the first r remainders
 unfoldable pub membersOf : Code → ℕ → ℕ → ℕ → List ℕ
 membersOf c a b r = listed (r * c .b1) (columnMember c a b) (columnDifference c a b)
+
+-- after the first count words of out stand the members ms, and end is where they end
+pub record Added (out : List ℕ) (count : ℕ) (ms : List ℕ) (end : ℕ) (out′ : List ℕ) : Type 0 where
+  pub size : length out′ ≡ length out
+  pub held : take end out′ ≡ take count out ++ ms
 
 -- what a gathering holds: the list, in its first count words
 pub record Members (g : Gathered) (ms : List ℕ) : Type 0 where

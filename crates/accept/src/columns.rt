@@ -1,14 +1,13 @@
 // Check 9: the members of any two strips are independent.
 ghost use mathlib.Core.Path.{_≡_};
-ghost use mathlib.Core.List.{_++_};
 ghost use Prim.Native.Nat.{ℕ, _+_, _-_, _*_, _%_, _≤_, _<_};
-ghost use lib.ListN.{length, take};
+ghost use lib.ListN.{length};
 ghost use Rattle.finite.specs.Search.{place};
 ghost use Rattle.boxcode.specs.Condition.{columnPairFree};
 ghost use Rattle.plan.specs.Header.{Framed};
 ghost use Rattle.plan.specs.Bytes.{codeWith};
 ghost use Rattle.accept.specs.Pairs.{firstFailing};
-ghost use Rattle.accept.specs.Tables.{columnCode, AllStrips, Strips, Members, differences, membersOf};
+ghost use Rattle.accept.specs.Tables.{columnCode, Added, AllStrips, Strips, Members, differences, membersOf};
 ghost use Rattle.accept.specs.Verdict.{columnsVerdict};
 use crate::pairs::Pair;
 use crate::pairs::pair_verdict;
@@ -34,20 +33,25 @@ fn strip_place(width: usize, a: usize, t: usize, r: usize) -> usize
     a + (r + width - t)
 }
 
-// The exclusive-ors of the entries of two columns, put after the members gathered so far.
-fn gather_column(g: Gathered, words: &[u64], from: usize, to: usize, height: usize) -> Gathered
-    requires { ⌜ (from + height ≤ length (now words)) × (to + height ≤ length (now words)) × (g .count + height ≤ 16) × (length (g .words) ≡ 16) ⌝ }
-    ensures { λ r. ⌜ Members r (take (g .count) (g .words) ++ differences (now (words .entry)) from to height) × (r .count ≡ g .count + height) ⌝ }
+// The exclusive-ors of the entries of two columns, put after the count members gathered so far.
+fn gather_column(
+    out: &mut [u64],
+    count: usize,
+    words: &[u64],
+    from: usize,
+    to: usize,
+    height: usize,
+)
+    requires { ⌜ (from + height ≤ length (now words)) × (to + height ≤ length (now words)) × (count + height ≤ length (now out)) ⌝ }
+    ensures { λ _. ⌜ Added (now (out .entry)) count (differences (now (words .entry)) from to height) (count + height) (now (out .exit)) ⌝ }
 {
-    let mut out = g.words;
-    let mut count = g.count;
+    let mut at = count;
     let mut k = 0;
     while k < height {
-        out[count] = words[from + k] ^ words[to + k];
-        count += 1;
+        out[at] = words[from + k] ^ words[to + k];
+        at += 1;
         k += 1;
     }
-    Gathered { words: out, count }
 }
 
 // The members of two strips: of each remainder that stands on different columns, the exclusive-ors of their entries.
@@ -57,20 +61,19 @@ fn gather(words: &[u64], height: usize, width: usize, a: usize, b: usize) -> Gat
 {
     let first = a % width;
     let second = b % width;
-    let mut g = Gathered {
-        words: [0u64; 16],
-        count: 0,
-    };
+    let mut out = [0u64; 16];
+    let mut count = 0;
     let mut r = 0;
     while r < width {
         let from = strip_place(width, a, first, r);
         let to = strip_place(width, b, second, r);
         if from != to {
-            g = gather_column(g, words, from * height, to * height, height);
+            gather_column(&mut out, count, words, from * height, to * height, height);
+            count += height;
         }
         r += 1;
     }
-    g
+    Gathered { words: out, count }
 }
 
 // The members of two strips are independent.

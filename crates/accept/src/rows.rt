@@ -2,19 +2,18 @@
 ghost use mathlib.Core.Path.{_≡_};
 ghost use Prim.Native.Nat.{ℕ, _+_, _-_, _*_, _≤_, _<_, max};
 ghost use lib.ListN.{length};
-ghost use Rattle.boxcode.specs.Condition.{rowPairFree};
 ghost use Rattle.plan.specs.Header.{Framed};
 ghost use Rattle.plan.specs.Bytes.{codeWith};
 ghost use Rattle.accept.specs.Pairs.{firstFailing};
-ghost use Rattle.accept.specs.Tables.{AllWindows, SweptFrom, sweptFree, windowsFree};
+ghost use Rattle.accept.specs.Tables.{SweptFrom, Windows, entriesAt, spread, sweptFree, windowsFree};
 ghost use Rattle.accept.specs.Verdict.{rowsVerdict};
 use crate::pairs::Pair;
 use crate::pairs::pair_verdict;
 use gf2::Kept;
 use gf2::keep;
 use gf2::sweep;
+use layout::number::u32_at;
 use plan::header::Header;
-use plan::table::unpack;
 use plan::verdict::Verdict;
 
 // The larger of two numbers.
@@ -27,16 +26,28 @@ fn larger(a: usize, b: usize) -> usize
     a
 }
 
-// The words from a place on, each as the base leaves it, in the same places of another table.
-fn sweep_table(base: Kept, words: &[u64], from: usize, swept: &mut [u64])
-    requires { ⌜ (base .taken ≤ 64) × (length (base .words) ≡ 64) × (from ≤ length (now words)) × (length (now swept) ≡ length (now words)) ⌝ }
-    ensures { λ _. ⌜ SweptFrom base (now (words .entry)) from (now (swept .exit)) ⌝ }
+// The entries of 32 bits from a place of the plan on, as many as the table has.
+fn fill(plan: &[u8], at: usize, table: &mut [u64])
+    requires { ⌜ at + 4 * length (now table) ≤ length (now plan) ⌝ }
+    ensures { λ _. ⌜ now (table .exit) ≡ entriesAt (now (plan .entry)) at (length (now (table .entry))) ⌝ }
+{
+    let mut k = 0;
+    while k < table.len() {
+        table[k] = u32_at(plan, at + 4 * k);
+        k += 1;
+    }
+}
+
+// The words of the table from a place on, each as the base leaves it.
+fn sweep_table(base: Kept, from: usize, table: &mut [u64])
+    requires { ⌜ (base .taken ≤ 64) × (length (base .words) ≡ 64) × (from ≤ length (now table)) ⌝ }
+    ensures { λ _. ⌜ SweptFrom base (now (table .entry)) from (now (table .exit)) ⌝ }
 {
     let members = base.words;
     let taken = base.taken;
     let mut k = from;
-    while k < words.len() {
-        swept[k] = sweep(&members[..taken], words[k]);
+    while k < table.len() {
+        table[k] = sweep(&members[..taken], table[k]);
         k += 1;
     }
 }
@@ -52,18 +63,19 @@ fn pair_free(taken: usize, swept: &[u64], size: usize, first: usize, second: usi
     (taken == size) & (more == end - from)
 }
 
-// The first failing pair of windows, of which there are count. The table swept is written over.
-fn search(words: &[u64], swept: &mut [u64], step: usize, size: usize, count: usize) -> Pair
-    requires { ⌜ AllWindows (length (now words)) step size count × (length (now swept) ≡ length (now words)) ⌝ }
-    ensures { λ r. ⌜ r ≡ firstFailing (windowsFree (now (words .entry)) step size) (λ (i : ℕ). i) count ⌝ }
+// The first failing pair of windows, of which there are count. The table is filled anew for each first window, and swept by its words.
+fn search(plan: &[u8], at: usize, table: &mut [u64], step: usize, size: usize, count: usize) -> Pair
+    requires { ⌜ Windows step size count × (length (now table) ≡ spread step size count) × (at + 4 * length (now table) ≤ length (now plan)) ⌝ }
+    ensures { λ r. ⌜ r ≡ firstFailing (windowsFree (entriesAt (now (plan .entry)) at (spread step size count)) step size) (λ (i : ℕ). i) count ⌝ }
 {
     let mut found = Pair::Clear;
     'search: for i in 0..count {
         let first = i * step;
-        let base = keep(&words[first..first + size]);
-        sweep_table(base, words, first + size, swept);
+        fill(plan, at, table);
+        let base = keep(&table[first..first + size]);
+        sweep_table(base, first + size, table);
         for j in i..count {
-            if !pair_free(base.taken, swept, size, first, j * step) {
+            if !pair_free(base.taken, table, size, first, j * step) {
                 found = Pair::Failing(i, j);
                 break 'search;
             }
@@ -77,13 +89,12 @@ pub fn rows_verdict(plan: &[u8], h: Header) -> Verdict
     requires { ⌜ Framed (now plan) h ⌝ }
     ensures { λ r. ⌜ r ≡ rowsVerdict (codeWith (now (plan .entry)) h) ⌝ }
 {
+    let mut table = [0u64; 2048];
     let entries = h.n1 * h.b2;
-    let words = unpack(plan, h.rows, entries);
-    let mut swept = [0u64; 2048];
     let size = h.b1 * h.b2;
     let count = h.n1 - h.b1 + 1;
     pair_verdict(
         8,
-        search(&words[..entries], &mut swept[..entries], h.b2, size, count),
+        search(plan, h.rows, &mut table[..entries], h.b2, size, count),
     )
 }

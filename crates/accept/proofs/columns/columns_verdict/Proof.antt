@@ -1,9 +1,8 @@
 -- `accept::columns::columns_verdict` meets its contract: the words are the column table, so the search is the code's. Assumes nothing.
-use mathlib.Core.Path.{_≡_, refl, sym, ap, _∙_}
-use Prim.Native.Nat.{ℕ, suc, _+_, _-_, _*_}
+use mathlib.Core.Path.{_≡_, sym, ap, _∙_}
+use Prim.Native.Nat.{suc, _+_, _-_}
 use native.Mathlib.Nat.{suc-mul, mul-comm}
 use native.Mathlib.Omega.{arith}
-use lib.ListN.{length}
 use Rattle.plan.specs.Bytes.{codeWith}
 use Rattle.accept.specs.Pairs.{pairVerdict}
 use Rattle.accept.specs.Verdict.{columnsVerdict}

@@ -1,24 +1,22 @@
 -- `accept::columns::gather` meets its contract. The invariant: the members of the first r remainders are gathered. Assumes nothing.
-use mathlib.Core.Path.{_≡_, refl, sym, ap, subst, _∙_}
-use mathlib.Core.List.{List, [], _∷_, _++_}
+use mathlib.Core.Path.{_≡_, refl, sym, subst, _∙_}
 use mathlib.Core.Logic.{⊎-elim}
-use Prim.Native.Nat.{ℕ, suc, _+_, _-_, _*_, _%_, _≤_, _<_}
+use Prim.Native.Nat.{ℕ, _+_, _-_, _*_, _≤_, _<_}
 use native.Mathlib.Nat.{mul-le-mul-right, suc-mul}
 use native.Mathlib.Omega.{arith}
-use lib.ListN.{length, take, getD, length-replicate}
-use Rattle.finite.specs.Search.{place}
+use lib.ListN.{length, length-replicate}
 use Rattle.finite.proofs.Digits.{place-to}
-use Rattle.accept.specs.Tables.{columnCode, membersOf, Members, differences}
+use Rattle.accept.specs.Tables.{columnCode, membersOf, Members}
 use Rattle.accept.proofs.Strips.{next-times, strip-inside, members-none, gathered-skip, gathered-more}
 use Rattle.accept.proofs.columns.gather.Statement.{statement}
 use Rattle.accept.proofs.columns.gather.Tie as tie
 
 abbrev Inv-loop : tie.InvT-loop
-Inv-loop words height width a b first second g₀ r₀ g r =
-    (r ≤ width) × (g .count ≤ r * height) × Members g (membersOf (columnCode words height width) a b r)
+Inv-loop words height width a b first second out₀ count₀ r₀ out count r =
+    (r ≤ width) × (count ≤ r * height) × Members (record { words = out; count = count }) (membersOf (columnCode words height width) a b r)
 
 abbrev μ-loop : tie.MeasureT-loop
-μ-loop words height width a b first second g₀ r₀ g r = width - r
+μ-loop words height width a b first second out₀ count₀ r₀ out count r = width - r
 
 rem-first : tie.Need-rem-first Inv-loop μ-loop
 rem-first c = omega arith
@@ -60,18 +58,28 @@ second-in c =
 room : (r width height : ℕ) → r < width → width * height ≤ 16 → r * height + height ≤ 16
 room r width height l u = omega (arith, mul-le-mul-right height l, suc-mul r height)
 
+slice-aggregate-gather-column : tie.Need-slice-aggregate-gather-column Inv-loop μ-loop
+slice-aggregate-gather-column c = sym (c .before .before .before .before .before .loop .inv .2 .size)
+
 mul-gather-column : tie.Need-mul-gather-column Inv-loop μ-loop
-mul-gather-column c = let p = first-in c in omega arith
+mul-gather-column c = let p = first-in (c .before) in omega arith
 
 mul-gather-column-2 : tie.Need-mul-gather-column-2 Inv-loop μ-loop
-mul-gather-column-2 c = let p = second-in c in omega arith
+mul-gather-column-2 c = let p = second-in (c .before) in omega arith
 
 gather-column-requires : tie.Need-gather-column-requires Inv-loop μ-loop
 gather-column-requires c κs =
-    let s = c .before .before .before .before .before .before in
-    let l = c .before .before .before .before .loop in
-    let w = room (l .r) (s .args .width) (s .args .height) (c .before .before .before .loop-test .taken) (s .pre .box-most) in
-    (first-in c, second-in c, omega arith, l .inv .2 .size)
+    let s = c .before .before .before .before .before .before .before in
+    let l = c .before .before .before .before .before .loop in
+    let w = room (l .r) (s .args .width) (s .args .height) (c .before .before .before .before .loop-test .taken) (s .pre .box-most) in
+    (first-in (c .before), second-in (c .before), omega (arith, l .inv .1, l .inv .2 .size))
+
+add-count : tie.Need-add-count Inv-loop μ-loop
+add-count c =
+    let s = c .before .before .before .before .before .before .before .before .before in
+    let l = c .before .before .before .before .before .before .before .loop in
+    let w = room (l .r) (s .args .width) (s .args .height) (c .before .before .before .before .before .before .loop-test .taken) (s .pre .box-most) in
+    omega (arith, l .inv .1)
 
 add-r : tie.Need-add-r Inv-loop μ-loop
 add-r c = omega arith
@@ -84,17 +92,19 @@ loop-again c =
     let s = c .before .before .before .before .before .before in
     let l = c .before .before .before .before .loop in
     let n = next-times (l .r) (s .args .height) in
+    let q = room (l .r) (s .args .width) (s .args .height) (c .before .before .before .loop-test .taken) (s .pre .box-most) in
     ⊎-elim
     (λ w. (
       omega arith,
-      rw (w .2) (omega (arith, w .1 .ensures .1)),
-      rw (w .2) (gathered-more (s .args .words .now) (s .args .height) (s .args .width) (s .args .a) (s .args .b) (l .r) (l .inv .2) _ _
-          (c .before .before .strip-place .ensures) (c .before .strip-place2 .ensures) (w .0 .taken) (w .1 .ensures .0)),
+      rw (w .5) (omega (arith, l .inv .1)),
+      rw (w .4, w .5) (gathered-more (s .args .words .now) (s .args .height) (s .args .width) (s .args .a) (s .args .b) (l .r) (l .inv .2) _ _
+          (c .before .before .strip-place .ensures) (c .before .strip-place2 .ensures) (w .0 .taken)
+          (record { size = w .2 .ensures .size ∙ l .inv .2 .size; most = omega (arith, l .inv .1); held = w .2 .ensures .held })),
     ))
     (λ w. (
       omega arith,
-      rw (w .1) (omega arith),
-      rw (w .1) (gathered-skip (s .args .words .now) (s .args .height) (s .args .width) (s .args .a) (s .args .b) (l .r) (l .inv .2) _ _
+      rw (w .2) (omega (arith, l .inv .1)),
+      rw (w .1, w .2) (gathered-skip (s .args .words .now) (s .args .height) (s .args .width) (s .args .a) (s .args .b) (l .r) (l .inv .2) _ _
           (c .before .before .strip-place .ensures) (c .before .strip-place2 .ensures) (w .0 .left)),
     ))
     (c .if1 .came)
@@ -102,9 +112,10 @@ loop-again c =
 returns : tie.Need-returns Inv-loop μ-loop
 returns c =
     let s = c .before .before .before .args in
-    let e : s .width ≡ c .before .loop .r = omega arith in
-    subst (λ (x : ℕ). Members (c .before .loop .g) (membersOf (columnCode (s .words .now) (s .height) (s .width)) (s .a) (s .b) x)) (sym e)
-    (c .before .loop .inv .2)
+    let l = c .before .loop in
+    let e : s .width ≡ l .r = omega arith in
+    subst (λ (x : ℕ). Members (record { words = l .out; count = l .count }) (membersOf (columnCode (s .words .now) (s .height) (s .width)) (s .a) (s .b) x)) (sym e)
+    (l .inv .2)
 
 pub gather-spec : {M : Type 1} → statement M
 gather-spec =
@@ -117,9 +128,11 @@ gather-spec =
     loop-holds
     strip-place-requires
     strip-place-requires-2
+    slice-aggregate-gather-column
     mul-gather-column
     mul-gather-column-2
     gather-column-requires
+    add-count
     add-r
     loop-less
     loop-again

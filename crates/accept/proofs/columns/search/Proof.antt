@@ -1,13 +1,12 @@
 -- `accept::columns::search` meets its contract. The invariants: no pair so far fails, and what is left to search is said by the definition.
 -- Assumes nothing.
 use mathlib.Core.Path.{_≡_, refl, sym, ap, _∙_}
-use mathlib.Core.Bool.{true, false}
-use Prim.Native.Nat.{ℕ, _+_, _-_, _*_, _≤_, _<_}
+use Prim.Native.Nat.{_+_, _-_, _≤_, _<_}
 use native.Mathlib.Nat.{sub-zero}
 use native.Mathlib.Omega.{arith}
 use borrow.Author.Tests.{not-true, not-false}
 use Rattle.boxcode.specs.Condition.{columnPairFree}
-use Rattle.accept.specs.declared.pairs.Pair.the-variants.{Failing, Clear}
+use Rattle.accept.specs.declared.pairs.Pair.the-variants.{Clear}
 use Rattle.accept.specs.Pairs.{inRow, fromRow, firstFailing}
 use Rattle.accept.specs.Tables.{columnCode}
 use Rattle.accept.proofs.Pairing.{row-next, row-fails, row-end, rows-next, rows-end}

@@ -1,5 +1,4 @@
 -- `accept::columns::strip_place` meets its contract: the two cases of a remainder. Assumes nothing.
-use mathlib.Core.Path.{_≡_, refl, sym, ap, _∙_}
 use native.Mathlib.Nat.{mod-lt}
 use native.Mathlib.Omega.{arith}
 use Rattle.accept.proofs.Strips.{place-after, place-before}

@@ -1,5 +1,5 @@
 -- `accept::rows::pair_free` meets its contract: a run is free where all of it is kept. Assumes nothing.
-use mathlib.Core.Path.{_≡_, refl, sym, ap, _∙_}
+use mathlib.Core.Path.{ap, _∙_}
 use mathlib.Core.Bool.{_&&_}
 use Prim.Native.Nat.{_+_}
 use native.Mathlib.Omega.{arith}

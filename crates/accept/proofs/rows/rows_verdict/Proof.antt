@@ -1,22 +1,21 @@
--- `accept::rows::rows_verdict` meets its contract: the words are the row table, so the search is the code's. Assumes nothing.
-use mathlib.Core.Path.{_≡_, refl, sym, ap, _∙_}
-use Prim.Native.Nat.{ℕ, _+_, _-_, _*_}
+-- `accept::rows::rows_verdict` meets its contract: the table has the row entries, so the search is the code's. Assumes nothing.
+use mathlib.Core.Path.{sym, ap, _∙_}
+use Prim.Native.Nat.{ℕ, _+_, _*_, _≤_}
 use native.Mathlib.Omega.{arith}
-use lib.ListN.{length, getD, take}
-use lib.Seq.{length-take-le, getD-take}
+use lib.Seq.{length-take-le}
+use Rattle.layout.specs.Number.{u32At}
 use Rattle.plan.specs.Bytes.{codeWith}
 use Rattle.accept.specs.Pairs.{pairVerdict}
+use Rattle.accept.specs.Tables.{entriesAt}
 use Rattle.accept.specs.Verdict.{rowsVerdict}
-use Rattle.accept.proofs.RowPairs.{windows-fit, rows-search}
+use Rattle.accept.proofs.Windows.{entries-length, entries-at}
+use Rattle.accept.proofs.RowPairs.{windows-spread, rows-search}
 use borrow.Author.Needs.{needs}
 use Rattle.accept.proofs.rows.rows_verdict.Statement.{statement}
 use Rattle.accept.proofs.rows.rows_verdict.Tie as tie
 
 mul-entries : tie.Need-mul-entries
 mul-entries c = search needs
-
-unpack-requires : tie.Need-unpack-requires
-unpack-requires c κs = search needs
 
 mul-size : tie.Need-mul-size
 mul-size c = search needs
@@ -27,26 +26,19 @@ sub-count c = search needs
 add-count : tie.Need-add-count
 add-count c = search needs
 
-array-share-prefix-words : tie.Need-array-share-prefix-words
-array-share-prefix-words c = search needs
+array-borrow-prefix-table : tie.Need-array-borrow-prefix-table
+array-borrow-prefix-table c = search needs
 
 slice-aggregate-search : tie.Need-slice-aggregate-search
 slice-aggregate-search c = sym (length-take-le _ _ (omega arith))
 
-array-borrow-prefix-swept : tie.Need-array-borrow-prefix-swept
-array-borrow-prefix-swept c = search needs
-
-slice-aggregate-search-2 : tie.Need-slice-aggregate-search-2
-slice-aggregate-search-2 c = sym (length-take-le _ _ (omega arith))
-
 search-requires : tie.Need-search-requires
 search-requires c κs =
-    let s = c .before .before .before .before .before .before .before in
+    let s = c .before .before .before .before .before in
     let p = s .pre .small in
-    let n = c .before .before .before .before .unpack .ensures .size in
-    let e : length (take (s .args .h .n1 * s .args .h .b2) (c .before .before .before .before .unpack .result)) ≡ s .args .h .n1 * s .args .h .b2 = length-take-le _ _ (omega arith) in
-    let w = windows-fit (s .args .h .n1) (s .args .h .b1) (s .args .h .b2) (p .n1-least) in
-    (record { step-most = p .b2-most; size-most = omega arith; few = omega arith; inside = omega arith }, length-take-le _ _ (omega arith) ∙ sym e)
+    let w = windows-spread (s .args .h .n1) (s .args .h .b1) (s .args .h .b2) (p .n1-least) in
+    let e : s .args .h .n1 * s .args .h .b2 ≤ 2048 = omega arith in
+    (record { step-most = p .b2-most; size-most = omega arith; few = omega arith }, length-take-le _ _ e ∙ sym w, rw (length-take-le _ _ e) (omega arith))
 
 pair-verdict-requires : tie.Need-pair-verdict-requires
 pair-verdict-requires c κs = search needs
@@ -54,30 +46,25 @@ pair-verdict-requires c κs = search needs
 returns : tie.Need-returns
 unfolding rowsVerdict
 returns c =
-    let s = c .before .before .before .before .before .before .before .before .before .before in
+    let s = c .before .before .before .before .before .before .before .before in
     let p = s .pre .small in
-    let u = c .before .before .before .before .before .before .before .unpack .ensures in
-    let words = c .before .before .before .before .before .before .before .unpack .result in
-    let entries = s .args .h .n1 * s .args .h .b2 in
-    let n = u .size in
-    let e : length (take entries words) ≡ entries = length-take-le entries words (omega arith) in
+    let n = windows-spread (s .args .h .n1) (s .args .h .b1) (s .args .h .b2) (p .n1-least) in
+    let m = entries-length (s .args .plan .now) (s .args .h .rows) (s .args .h .n1 * s .args .h .b2) in
     c .pair-verdict .ensures
-    ∙ ap (pairVerdict 8) (c .before .before .search .ensures ∙ rows-search (codeWith (s .args .plan .now) (s .args .h)) (take entries words) (p .b2-pos) (omega arith)
-    (λ k l. sym (getD-take entries words k 0 l ∙ (rw (s .pre .rows-at) at (u .entry k l)))) (p .n1-least))
+    ∙ ap (pairVerdict 8) ((rw n at (c .before .before .search .ensures)) ∙ rows-search (codeWith (s .args .plan .now) (s .args .h)) (entriesAt (s .args .plan .now) (s .args .h .rows) (s .args .h .n1 * s .args .h .b2)) (p .b2-pos) (omega arith)
+    (λ k l. sym (entries-at (s .args .plan .now) (s .args .h .rows) (s .args .h .n1 * s .args .h .b2) k l
+    ∙ ap (λ (x : ℕ). u32At (s .args .plan .now) (x + 4 * k)) (s .pre .rows-at))) (p .n1-least))
 
 pub rows-verdict-spec : {M : Type 1} → statement M
 rows-verdict-spec =
     tie.close
     (tie.spec
     mul-entries
-    unpack-requires
     mul-size
     sub-count
     add-count
-    array-share-prefix-words
+    array-borrow-prefix-table
     slice-aggregate-search
-    array-borrow-prefix-swept
-    slice-aggregate-search-2
     search-requires
     pair-verdict-requires
     returns)

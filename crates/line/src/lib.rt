@@ -1,0 +1,4 @@
+pub mod parts;
+pub mod print;
+pub mod text;
+pub mod whole;
