@@ -1,24 +1,47 @@
-# make run    the main job          make test   the whole gate, set-up included
-# make lib    libsheet.a            make bench  times beside plain Rust         make clean
+# make run      a blotted sheet through the program sheetread (INPUT=file: another input)
+# make test     the whole gate, set-up included
+# make lib      libsheet.a, for C          make install PREFIX=/usr/local DESTDIR=
+# make bench    times beside plain Rust    make host    the example host in C        make clean
 CARGO_TARGET_DIR ?= $(CURDIR)/build/cargo
 export CARGO_TARGET_DIR
+PREFIX ?= /usr/local
+DESTDIR ?=
 LIB := target/staticlib/libsheet.a
+PROGRAM := target/bin/sheetread
+SOURCES := crates.txt $(shell find crates -name '*.rt' -o -name '*.antt')
+INPUT ?= crates/sheetread/stdin
 
-.PHONY: run test lib bench clean
+.PHONY: run test lib host install bench clean
 
-run: lib
-	@mkdir -p build
-	@gcc -std=c99 -O2 -Iinclude examples/host.c $(LIB) -o build/host
-	@build/host
+run: $(PROGRAM)
+	@$(PROGRAM) < $(INPUT)
 
 test:
 	@tests/run
 
 lib: $(LIB)
 
-$(LIB): crates.txt $(shell find crates -name '*.rt' -o -name '*.antt')
-	rt staticlib sheet
-	@test -s $@
+# The kit proves what has changed, and builds only what is proved.
+$(LIB): $(SOURCES)
+	@mkdir -p build/logs
+	rt staticlib sheet > build/logs/lib.log 2>&1 || { tail -n 20 build/logs/lib.log; false; }
+	@touch $@
+
+$(PROGRAM): $(SOURCES)
+	@mkdir -p build/logs
+	rt check sheetread > build/logs/program.log 2>&1 || { tail -n 20 build/logs/program.log; false; }
+	@touch $@
+
+host: lib
+	@mkdir -p build
+	gcc -std=c99 -O2 -Iinclude examples/host.c $(LIB) -o build/host
+	@build/host
+
+install: lib
+	install -d $(DESTDIR)$(PREFIX)/lib/pkgconfig $(DESTDIR)$(PREFIX)/include
+	install -m 644 $(LIB) $(DESTDIR)$(PREFIX)/lib/libsheet.a
+	install -m 644 include/sheet.h $(DESTDIR)$(PREFIX)/include/sheet.h
+	sed 's|@PREFIX@|$(PREFIX)|' include/sheet.pc.in > $(DESTDIR)$(PREFIX)/lib/pkgconfig/sheet.pc
 
 bench: lib
 	cd tests && SHEET_LIB_DIR=$(CURDIR)/target/staticlib cargo run --release --offline --quiet --features calls --bin bench

@@ -1,10 +1,9 @@
 // The two lines that the program prints.
-ghost use mathlib.Core.Path.{_≡_};
 ghost use mathlib.Core.List.{[], _∷_};
 ghost use Prim.Native.Nat.{_+_, _*_, _≤_};
 ghost use lib.ListN.{length};
 ghost use Rattle.line.specs.Text.{Put};
-ghost use Rattle.line.specs.Line.{dataField, numbers, okWord, noWord, okLine, noLine};
+ghost use Rattle.line.specs.Line.{dataField, numbers, okLine, noLine};
 use crate::text::put_byte;
 use crate::text::put_field;
 use crate::text::put_hexes;

@@ -1,5 +1,4 @@
 // The line that the program prints, from the bytes that it is given.
-ghost use mathlib.Core.Path.{_≡_};
 ghost use Prim.Native.Nat.{_+_, _*_, _≤_};
 ghost use lib.ListN.{length};
 ghost use Rattle.reader.specs.Read.{readOutcome};

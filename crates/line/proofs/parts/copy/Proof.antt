@@ -1,9 +1,9 @@
 -- `line::parts::copy` meets its contract. The invariant: the first i bytes are copied, and nothing else. Assumes nothing.
-use mathlib.Core.Path.{_≡_, refl, sym, ap, _∙_}
-use Prim.Native.Nat.{ℕ, _+_, _-_, _≤_}
+use mathlib.Core.Path.{_≡_, ap, _∙_}
+use Prim.Native.Nat.{ℕ, _-_, _≤_}
+use native.Mathlib.Omega.{arith}
 use lib.ListN.{length, take}
 use lib.Seq.{take-length}
-use native.Mathlib.Omega.{arith}
 use Rattle.line.specs.Text.{Put}
 use Rattle.line.proofs.Putting.{put-none, put-length, put-take, put-as}
 use Rattle.line.proofs.parts.copy.Statement.{statement}

@@ -1,12 +1,12 @@
 -- `line::parts::data_bytes` meets its contract: no early answer is given under an accepted plan. Assumes nothing.
-use Rattle.plan.specs.declared.header.Header.{Header}
-use mathlib.Core.Path.{_≡_, refl, sym, ap, _∙_}
-use Prim.Native.Nat.{ℕ, _+_, _-_, _*_, _≤_}
+use mathlib.Core.Path.{ap, _∙_}
+use Prim.Native.Nat.{_+_, _-_, _*_}
 use native.Mathlib.Nat.{mul-le-mul}
 use native.Mathlib.Omega.{arith}
 use Rattle.layout.specs.Cells.{rowBytes}
 use Rattle.boxcode.specs.Check.{dataSize}
 use Rattle.boxcode.proofs.Check.{checks-fit}
+use Rattle.plan.specs.declared.header.Header.{Header}
 use Rattle.plan.specs.Bytes.{codeOf}
 use Rattle.line.specs.Line.{dataBytes}
 use borrow.Author.Needs.{needs}

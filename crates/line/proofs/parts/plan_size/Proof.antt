@@ -1,5 +1,4 @@
 -- `line::parts::plan_size` meets its contract: under 20 bytes, all are the plan. Assumes nothing.
-use mathlib.Core.Path.{_≡_, refl, sym, ap, _∙_}
 use native.Mathlib.Omega.{arith}
 use Rattle.line.specs.Line.{planSize}
 use borrow.Author.Needs.{needs}

@@ -1,8 +1,8 @@
 -- `line::print::put_data` meets its contract: no data, no space. Assumes nothing.
-use Rattle.line.proofs.Lines.{data-none, data-some}
-use Rattle.line.proofs.Putting.{put-none, put-more, put-as, hex-length}
 use mathlib.Core.Path.{sym}
 use native.Mathlib.Omega.{arith}
+use Rattle.line.proofs.Putting.{put-none, put-more, put-as, hex-length}
+use Rattle.line.proofs.Lines.{data-none, data-some}
 use borrow.Author.Needs.{needs}
 use Rattle.line.proofs.print.put_data.Statement.{statement}
 use Rattle.line.proofs.print.put_data.Tie as tie

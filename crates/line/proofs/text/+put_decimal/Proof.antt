@@ -1,11 +1,11 @@
 -- The proof of the cycle of calls {put_decimal}. The measure is the number that is written. Assumes nothing.
-use Rattle.line.proofs.Putting.{put-as, put-more, put-length, decimal-one, decimal-more, decimal-most}
-use Rattle.line.specs.Text.{decimalBytes}
-use borrow.Author.Needs.{needs}
-use native.Mathlib.Omega.{arith}
+use mathlib.Core.Path.{sym, ap, _∙_}
 use mathlib.Core.List.{[], _∷_, _++_}
-use mathlib.Core.Path.{_≡_, refl, sym, ap, _∙_}
 use Prim.Native.Nat.{ℕ, _/_, _<_}
+use native.Mathlib.Omega.{arith}
+use Rattle.line.specs.Text.{decimalBytes}
+use Rattle.line.proofs.Putting.{put-as, put-more, put-length, decimal-one, decimal-more, decimal-most}
+use borrow.Author.Needs.{needs}
 use borrow.Fn.Kinds.{In}
 use borrow.Fn.PlainCycle.{Measures, is, falls, and}
 use Rattle.line.proofs.text.put_decimal.Reads as put-decimal

@@ -1,7 +1,7 @@
 -- `line::text::put_field` meets its contract. Assumes nothing.
-use Rattle.line.proofs.Putting.{put-more, decimal-most}
-use Rattle.line.specs.Line.{field}
 use native.Mathlib.Omega.{arith}
+use Rattle.line.specs.Line.{field}
+use Rattle.line.proofs.Putting.{put-more, decimal-most}
 use borrow.Author.Needs.{needs}
 use Rattle.line.proofs.text.put_field.Statement.{statement}
 use Rattle.line.proofs.text.put_field.Tie as tie

@@ -1,9 +1,9 @@
 -- `line::text::put_hexes` meets its contract. The invariant: the first i bytes of s are written. Assumes nothing.
-use mathlib.Core.Path.{_≡_, refl, sym, ap, _∙_}
+use mathlib.Core.Path.{_≡_, sym, ap, _∙_}
 use Prim.Native.Nat.{ℕ, _+_, _*_, _-_, _≤_, _<_}
+use native.Mathlib.Omega.{arith}
 use lib.ListN.{length, take}
 use lib.Seq.{take-length}
-use native.Mathlib.Omega.{arith}
 use Rattle.line.specs.Text.{hexText, hexBytes, Put}
 use Rattle.line.proofs.Putting.{put-none, put-length, put-more, put-as, hex-more}
 use Rattle.line.proofs.text.put_hexes.Statement.{statement}

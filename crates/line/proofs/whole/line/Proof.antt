@@ -1,12 +1,12 @@
 -- `line::whole::line` meets its contract: the parts that it hands on are those of the definition. Assumes nothing.
-use Rattle.line.proofs.Lines.{parts-fit, zeros-part, rest-part, line-made}
-use Rattle.line.proofs.Putting.{put-front, put-length}
+use mathlib.Core.Path.{refl, sym, ap, _∙_}
+use mathlib.Core.List.{List}
+use Prim.Native.Nat.{ℕ, _-_, _≤_}
+use native.Mathlib.Omega.{arith}
 use lib.Seq.{length-take-le}
 use lib.ListN.{length, take, drop, length-take}
-use Prim.Native.Nat.{ℕ, _-_, _≤_}
-use mathlib.Core.List.{List}
-use mathlib.Core.Path.{_≡_, refl, sym, ap, _∙_}
-use native.Mathlib.Omega.{arith}
+use Rattle.line.proofs.Putting.{put-front, put-length}
+use Rattle.line.proofs.Lines.{parts-fit, zeros-part, rest-part, line-made}
 use borrow.Author.Needs.{needs}
 use Rattle.line.proofs.whole.line.Statement.{statement}
 use Rattle.line.proofs.whole.line.Tie as tie
@@ -71,21 +71,25 @@ same-length-3 c = search needs
 
 returns : tie.Need-returns
 returns c =
-    let start = c .before .before .before .before .before .before .before .before .before .before .before .before .before .before .before .before .before .before .before .before .before .before .before .before .before .before in
+    -- the places after each call, from the last to the first
+    let printed = c .before .before .before .before .before .before in
+    let cleared = printed .before .before .before .before .before .before in
+    let sized = cleared .before .before in
+    let copied = sized .before .before .before in
+    let planned = copied .before .before .before .before in
+    let start = planned .before .before .before .before .before in
     let input = start .args .input .now in
-    let n = c .before .before .before .before .before .before .before .before .before .before .before .before .before .before .before .before .before .before .before .before .before .plan-size .result in
-    let copied = c .before .before .before .before .before .before .before .before .before .before .before .before .before .before .before .before .before .copy .ensures in
-    let k = c .before .before .before .before .before .before .before .before .before .before .before .before .before .before .data-bytes .ensures in
-    let cleared = c .before .before .before .before .before .before .before .before .before .before .before .before .clear .ensures in
-    let p = c .before .before .before .before .before .before .read-line .ensures in
+    let n = planned .plan-size .result in
+    let k = sized .data-bytes .result in
+    let p = printed .read-line .ensures in
     let l = length-take (length input - n) (drop n input) in
     let h : length (take (length input - n) (drop n input)) ≤ length (start .args .sheet .now) = omega arith in
-    let f : c .before .before .before .before .before .before .before .before .before .before .before .before .before .before .data-bytes .result ≤ length (start .args .bits .now) = omega arith in
-    let w : c .before .before .before .before .before .before .read-line .result ≤ length (c .before .before .before .before .before .before .read-line .last .1 .1 .1 .0) = omega (arith, put-length (p .0), p .1) in
+    let f : k ≤ length (start .args .bits .now) = omega arith in
+    let w : printed .read-line .result ≤ length (printed .read-line .last .1 .1 .1 .0) = omega (arith, put-length (p .0), p .1) in
     record {
       line = put-front (p .0) (omega (arith, p .0 .past))
-          ∙ line-made _ _ _ _ _ _ (c .before .before .before .before .before .before .before .before .before .before .before .before .before .before .before .before .before .before .before .before .before .plan-size .ensures) refl (put-front copied h ∙ rest-part n input)
-          (ap (λ (s : List ℕ). take (c .before .before .before .before .before .before .before .before .before .before .before .before .before .before .data-bytes .result) s) cleared ∙ zeros-part _ _ f) k;
+          ∙ line-made _ _ _ _ _ _ (planned .plan-size .ensures) refl (put-front (copied .copy .ensures) h ∙ rest-part n input)
+          (ap (λ (s : List ℕ). take k s) (cleared .clear .ensures) ∙ zeros-part _ _ f) (sized .data-bytes .ensures);
       within = w;
       counted = sym (length-take-le _ _ w);
     }

@@ -1,0 +1,125 @@
+//! The built program `sheetread` beside the model's line: what it prints for what stands on its
+//! standard input. The program's path is in SHEETREAD, or `../target/bin/sheetread`.
+
+use sheet_tests::cases::plan_t;
+use sheet_tests::damage::damaged;
+use sheet_tests::line::{line, INPUT_LIMIT};
+use sheet_tests::make::{accepted, burst_sizes, powers_3x3, CellOrder};
+use sheet_tests::model;
+use sheet_tests::plan::{field, set_header_field, Plan};
+use sheet_tests::rng::Rng;
+use sheet_tests::scans::{random_burst, random_data, random_sheet, turned};
+use std::io::{ErrorKind, Read, Write};
+use std::process::{Command, Stdio};
+use std::time::Duration;
+
+/// What the program prints for an input that is handed over in pieces, with a pause between them.
+fn printed_in_pieces(pieces: &[&[u8]], pause: Duration) -> String {
+    let path = std::env::var("SHEETREAD").unwrap_or_else(|_| "../target/bin/sheetread".into());
+    let mut child = Command::new(path)
+        .stdin(Stdio::piped())
+        .stdout(Stdio::piped())
+        .spawn()
+        .expect("the program is built");
+    let mut input = child.stdin.take().expect("a pipe");
+    for piece in pieces {
+        match input.write_all(piece).and_then(|()| input.flush()) {
+            // Past its limit the program need not read on.
+            Err(error) if error.kind() == ErrorKind::BrokenPipe => break,
+            other => other.expect("the program reads"),
+        }
+        std::thread::sleep(pause);
+    }
+    drop(input);
+    let mut out = String::new();
+    child.stdout.take().expect("a pipe").read_to_string(&mut out).expect("text");
+    assert!(child.wait().expect("an end").success());
+    out
+}
+
+/// The program prints the model's line, and nothing else.
+fn compare(input: &[u8]) -> String {
+    let out = printed_in_pieces(&[input], Duration::ZERO);
+    assert_eq!(out, line(input) + "\n");
+    out
+}
+
+/// A plan and a sheet behind it.
+fn joined(plan: &[u8], sheet: &[u8]) -> Vec<u8> {
+    [plan, sheet].concat()
+}
+
+/// A written sheet with a random burst on it, behind its plan.
+fn blotted(plan: &Plan, rng: &mut Rng) -> Vec<u8> {
+    let sheet = model::write_sheet(plan, &random_data(plan, rng));
+    let burst = random_burst(plan, rng);
+    joined(&plan.encode(), &turned(plan, &sheet, &burst))
+}
+
+#[test]
+fn case_12() {
+    assert_eq!(compare(&joined(&plan_t().encode(), &[0x03, 0x05])), "ok 2 0 1 1 2 01\n");
+}
+
+#[test]
+fn short_inputs() {
+    let whole = joined(&plan_t().encode(), &[0x03, 0x05]);
+    for len in 0..=whole.len() {
+        compare(&whole[..len]);
+    }
+    compare(&joined(&whole, &[0]));
+}
+
+#[test]
+fn length_field_above_and_below() {
+    let whole = joined(&plan_t().encode(), &[0x03, 0x05]);
+    for told in [0, 1, 19, 20, 21, 75, 76, 77, 78, 79, 1000, 65_535] {
+        let mut input = whole.clone();
+        set_header_field(&mut input, field::LENGTH, told);
+        compare(&input);
+    }
+}
+
+#[test]
+fn past_the_limit() {
+    let mut rng = Rng::new(71);
+    for len in [INPUT_LIMIT - 1, INPUT_LIMIT, INPUT_LIMIT + 1, INPUT_LIMIT + 5000] {
+        let mut input = blotted(&plan_t(), &mut rng);
+        input.resize(len, 0);
+        compare(&input);
+    }
+}
+
+#[test]
+fn slow_pipe() {
+    let mut rng = Rng::new(72);
+    let input = blotted(&accepted(&mut rng, 2, 3, 9), &mut rng);
+    let pieces: Vec<&[u8]> = input.chunks(input.len() / 7 + 1).collect();
+    assert_eq!(printed_in_pieces(&pieces, Duration::from_millis(20)), line(&input) + "\n");
+}
+
+#[test]
+fn full_size() {
+    let mut rng = Rng::new(73);
+    let plan = powers_3x3(512, 698, CellOrder::Sheet, &mut rng);
+    assert!(compare(&blotted(&plan, &mut rng)).starts_with("ok "));
+    assert!(compare(&joined(&plan.encode(), &random_sheet(&plan, &mut rng))).starts_with("no 14 "));
+}
+
+#[test]
+fn hundreds_of_inputs() {
+    let mut rng = Rng::new(74);
+    let (mut taken, mut refused, mut bare) = (0, 0, 0);
+    for _ in 0..12 {
+        for (b1, b2) in burst_sizes() {
+            let plan = accepted(&mut rng, b1, b2, 2);
+            bare += usize::from(plan.data_len() == 0);
+            compare(&blotted(&plan, &mut rng));
+            taken += 1;
+            compare(&joined(&damaged(&plan, &mut rng), &random_sheet(&plan, &mut rng)));
+            refused += 1;
+        }
+    }
+    println!("{taken} blotted sheets, {bare} of them with no data, {refused} damaged plans");
+    assert!(taken >= 150 && refused >= 150);
+}
