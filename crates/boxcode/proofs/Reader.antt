@@ -3,7 +3,7 @@
 --   fits-mendable, unmendable, none-fits   a sheet is mendable exactly where some burst fits it
 --   change-burst, change-fits, mended-belongs   the change is a burst that fits, and the mended sheet belongs
 --   change-is            under separation the change is the burst that fits
---   blotted-mendable, blotted-change, blotted-mended, blotted-data   a sheet that is t with a burst e turned over is mended to t,
+--   corrupted-mendable, corrupted-change, corrupted-mended, corrupted-data   a sheet that is t with a burst e turned over is mended to t,
 --                        if t belongs
 --   apart                no two bursts make different sheets that belong equal
 --   mended-written       the mended sheet is the one written from the data read
@@ -71,25 +71,25 @@ module _ (c : Code) (F : Formed c) (S : Separated c) (t e s : Cells) (b : Belong
   fits : Fits c s e
   fits = belongs-cells c t (flip s e) (λ i j li lj. sym (back i j li lj)) b
 
-  pub blotted-mendable : mendable c s ≡ true
-  blotted-mendable = fits-mendable c F s e B fits
+  pub corrupted-mendable : mendable c s ≡ true
+  corrupted-mendable = fits-mendable c F s e B fits
 
-  pub blotted-change : (i j : ℕ) → change c s i j ≡ e i j
-  blotted-change = change-is c F s S e B fits
+  pub corrupted-change : (i j : ℕ) → change c s i j ≡ e i j
+  corrupted-change = change-is c F s S e B fits
 
-  pub blotted-mended : SameCells c (mended c s) t
+  pub corrupted-mended : SameCells c (mended c s) t
   unfolding mended
-  blotted-mended i j li lj = ap (xor (s i j)) (blotted-change i j) ∙ back i j li lj
+  corrupted-mended i j li lj = ap (xor (s i j)) (corrupted-change i j) ∙ back i j li lj
 
-  pub blotted-data : (d : ℕ) → d < dataSize c → dataOf c (mended c s) d ≡ dataOf c t d
-  blotted-data = data-cells c F (mended c s) t blotted-mended
+  pub corrupted-data : (d : ℕ) → d < dataSize c → dataOf c (mended c s) d ≡ dataOf c t d
+  corrupted-data = data-cells c F (mended c s) t corrupted-mended
 
 -- two sheets that belong and that two bursts make equal are the same cells
 pub apart : (c : Code) → Formed c → Separated c → (t t' e e' : Cells) → Belongs c t → Belongs c t' → Burst c e → Burst c e'
     → SameCells c (flip t e) (flip t' e') → SameCells c t t'
 apart c F S t t' e e' b b' B B' h i j li lj =
-    sym (blotted-mended c F S t e (flip t e) b B (λ i j li lj. refl) i j li lj)
-    ∙ blotted-mended c F S t' e' (flip t e) b' B' h i j li lj
+    sym (corrupted-mended c F S t e (flip t e) b B (λ i j li lj. refl) i j li lj)
+    ∙ corrupted-mended c F S t' e' (flip t e) b' B' h i j li lj
 
 -- ---- a sheet written from data, with one burst on it
 
@@ -111,13 +111,13 @@ module _ (c : Code) (F : Formed c) (W : Writable c) where
     reads x e s B h =
         let t = written c x in
         let b = W .belongs x in
-        let turned : (i j : ℕ) → change c s i j ≡ e i j = blotted-change c F S t e s b B h in
+        let turned : (i j : ℕ) → change c s i j ≡ e i j = corrupted-change c F S t e s b B h in
         record {
-          taken = blotted-mendable c F S t e s b B h;
+          taken = corrupted-mendable c F S t e s b B h;
           turned = turned;
-          sheet = blotted-mended c F S t e s b B h;
+          sheet = corrupted-mended c F S t e s b B h;
           report = report-cells c (change c s) e (λ i j li lj. turned i j);
-          bits = λ d l. blotted-data c F S t e s b B h d l ∙ written-data c F x d l;
+          bits = λ d l. corrupted-data c F S t e s b B h d l ∙ written-data c F x d l;
         }
 
     pub data-apart : (x x' : Bits) (e e' : Cells) → Burst c e → Burst c e' → SameCells c (flip (written c x) e) (flip (written c x') e')

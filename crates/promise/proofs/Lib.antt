@@ -1,4 +1,4 @@
 -- The promise, proved: the theorems, over what is turned over, written and read.
-pub mod Blotted
+pub mod Corrupted
 pub mod Reading
 pub mod Promise

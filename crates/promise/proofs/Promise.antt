@@ -30,8 +30,8 @@ use Rattle.buffers.proofs.Passing.{row-sheet, writes-pass}
 use Rattle.writer.specs.Write.{dataBits, writtenBytes, write}
 use Rattle.reader.specs.Read.{Outcome, readOutcome}
 use Rattle.promise.specs.Promise as promise
-use Rattle.promise.specs.Promise.{DataFor, SheetFor, BufferFor, NoneFits, SomeFits, cellsOf, dataIn, blotted, empty, readAs}
-use Rattle.promise.proofs.Blotted.{blotted-form, blotted-cell, blotted-none, blotted-back, fits-cells, data-bit, data-held}
+use Rattle.promise.specs.Promise.{DataFor, SheetFor, BufferFor, NoneFits, SomeFits, cellsOf, dataIn, corrupted, empty, readAs}
+use Rattle.promise.proofs.Corrupted.{corrupted-form, corrupted-cell, corrupted-none, corrupted-back, fits-cells, data-bit, data-held}
 use Rattle.promise.proofs.Reading.{taken-as, refused-as, none-or-some}
 
 pub plan-test : promise.PlanTest
@@ -39,10 +39,10 @@ plan-test plan = (accepted-plan plan, λ A. ap (λ (v : Verdict). v .number) (pl
 
 pub turns : promise.Turns
 turns plan ok sheet = record {
-  form = blotted-form plan sheet;
-  cell = blotted-cell plan sheet;
+  form = corrupted-form plan sheet;
+  cell = corrupted-cell plan sheet;
   empty-burst = burst-none (codeOf plan) (accepted-plan plan ok .formed);
-  empty-turns = blotted-none plan sheet;
+  empty-turns = corrupted-none plan sheet;
 }
 
 -- ---- writing
@@ -140,15 +140,15 @@ pub read-back : promise.ReadBack
 read-back plan ok bits old e right B l =
     let w = writtenBytes plan bits in
     let W = written-once plan ok bits right in
-    let back : blotted plan (blotted plan w e) e ≡ w = blotted-back plan w e (W .form) in
-    taken-as plan (accepted-plan plan ok) (blotted plan w e) old (blotted-form plan w e) l e B (rw back (W .belongs))
+    let back : corrupted plan (corrupted plan w e) e ≡ w = corrupted-back plan w e (W .form) in
+    taken-as plan (accepted-plan plan ok) (corrupted plan w e) old (corrupted-form plan w e) l e B (rw back (W .belongs))
     ∙ ap₂ (readAs (reportOf (codeOf plan) e)) back (ap (dataIn plan) back ∙ W .holds)
 
 pub read-clean : promise.ReadClean
 unfolding nothing
 read-clean plan ok bits old right l =
     let w = writtenBytes plan bits in
-    ap (λ (s : List ℕ). readOutcome plan s old) (sym (blotted-none plan w (written-once plan ok bits right .form)))
+    ap (λ (s : List ℕ). readOutcome plan s old) (sym (corrupted-none plan w (written-once plan ok bits right .form)))
     ∙ read-back plan ok bits old empty right (burst-none (codeOf plan) (accepted-plan plan ok .formed)) l
     ∙ ap (λ (r : Report). readAs r w bits) (report-none (codeOf plan) empty (λ i j li lj. refl))
 

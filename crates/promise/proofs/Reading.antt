@@ -28,8 +28,8 @@ use Rattle.buffers.specs.Buffers.{readChecks}
 use Rattle.buffers.proofs.Passing.{reads-pass}
 use Rattle.mend.specs.Report.{reportAs}
 use Rattle.reader.specs.Read.{refused, taken, readVerdict, sheetRead, bitsRead, reportRead, readOutcome}
-use Rattle.promise.specs.Promise.{SheetFor, BufferFor, BurstOn, FitsOn, NoneFits, SomeFits, cellsOf, dataIn, blotted, readAs}
-use Rattle.promise.proofs.Blotted.{blotted-cell, fits-cells, cells-fit}
+use Rattle.promise.specs.Promise.{SheetFor, BufferFor, BurstOn, FitsOn, NoneFits, SomeFits, cellsOf, dataIn, corrupted, readAs}
+use Rattle.promise.proofs.Corrupted.{corrupted-cell, fits-cells, cells-fit}
 
 module _ (plan : List ℕ) (A : Accepted plan) (sheet old : List ℕ) (form : SheetFor plan sheet) (l : BufferFor plan old) where
   abbrev c : Code
@@ -71,18 +71,18 @@ module _ (plan : List ℕ) (A : Accepted plan) (sheet old : List ℕ) (form : Sh
     same-report : reportOf c (change c s) ≡ reportOf c e
     same-report = report-cells c (change c s) e (λ i j li lj. changed i j)
 
-    same-sheet : sheetRead c sheet ≡ blotted plan sheet e
-    unfolding sheetRead blotted
+    same-sheet : sheetRead c sheet ≡ corrupted plan sheet e
+    unfolding sheetRead corrupted
     same-sheet = bytes-equal (c .n1) (c .n2) (mended c s) (flip s e) mended-cells
 
-    same-bits : bitsRead c sheet ≡ dataIn plan (blotted plan sheet e)
+    same-bits : bitsRead c sheet ≡ dataIn plan (corrupted plan sheet e)
     unfolding bitsRead dataIn
     same-bits =
-        let t = cellsOf plan (blotted plan sheet e) in
+        let t = cellsOf plan (corrupted plan sheet e) in
         bytes-equal 1 (dataSize c) (λ i d. dataOf c (mended c s) d) (λ i d. dataOf c t d)
-        (λ i d li ld. data-cells c (A .formed) (mended c s) t (λ i j li lj. mended-cells i j li lj ∙ sym (blotted-cell plan sheet e i j li lj)) d ld)
+        (λ i d li ld. data-cells c (A .formed) (mended c s) t (λ i j li lj. mended-cells i j li lj ∙ sym (corrupted-cell plan sheet e i j li lj)) d ld)
 
-    pub taken-as : readOutcome plan sheet old ≡ readAs (reportOf c e) (blotted plan sheet e) (dataIn plan (blotted plan sheet e))
+    pub taken-as : readOutcome plan sheet old ≡ readAs (reportOf c e) (corrupted plan sheet e) (dataIn plan (corrupted plan sheet e))
     unfolding reportRead
     taken-as =
         reads-mended (fits-mendable c (A .formed) s e B (fits-cells plan sheet e f))

@@ -9,7 +9,7 @@
 --   BelongsTo              both sums of the sheet are 0 (01: it belongs to the plan)
 --   dataIn                 the data that a sheet holds in its cells that are not check cells, packed
 --   BurstOn, empty         a burst (01: a blot): a set of cells, possibly empty; the empty one
---   blotted                the sheet with the cells of a burst turned over and no others
+--   corrupted                the sheet with the cells of a burst turned over and no others
 --   FitsOn                 the sheet so turned over belongs to the plan (01: the blot fits)
 --   NoneFits, SomeFits     no burst fits the sheet; some burst does
 --   readAs                 a read that succeeds: number 0 and places 0, 0, a report, and both buffers after the call
@@ -75,11 +75,11 @@ BurstOn plan e = Burst (codeOf plan) e
 abbrev pub empty : Cells
 empty i j = false
 
-unfoldable pub blotted : List ℕ → List ℕ → Cells → List ℕ
-blotted plan sheet e = bytesOf (codeOf plan .n1) (codeOf plan .n2) (flip (cellsOf plan sheet) e)
+unfoldable pub corrupted : List ℕ → List ℕ → Cells → List ℕ
+corrupted plan sheet e = bytesOf (codeOf plan .n1) (codeOf plan .n2) (flip (cellsOf plan sheet) e)
 
 abbrev pub FitsOn : List ℕ → List ℕ → Cells → Type 0
-FitsOn plan sheet e = BelongsTo plan (blotted plan sheet e)
+FitsOn plan sheet e = BelongsTo plan (corrupted plan sheet e)
 
 abbrev pub NoneFits : List ℕ → List ℕ → Type 0
 NoneFits plan sheet = (e : Cells) → BurstOn plan e → FitsOn plan sheet e → ⊥
@@ -113,12 +113,12 @@ Writes = (plan : List ℕ) → Passes plan → (bits old : List ℕ) → DataFor
 -- 1. two strings of data, a burst on each written sheet, either or both empty: if the sheets are equal, the data are
 abbrev pub Apart : Type 0
 Apart = (plan : List ℕ) → Passes plan → (bits bits' : List ℕ) (e e' : Cells) → DataFor plan bits → DataFor plan bits'
-    → BurstOn plan e → BurstOn plan e' → blotted plan (writtenBytes plan bits) e ≡ blotted plan (writtenBytes plan bits') e' → bits ≡ bits'
+    → BurstOn plan e → BurstOn plan e' → corrupted plan (writtenBytes plan bits) e ≡ corrupted plan (writtenBytes plan bits') e' → bits ≡ bits'
 
 -- 2. number 0, places 0 and 0, the report of the burst, every byte of the written sheet, and the data
 abbrev pub ReadBack : Type 0
 ReadBack = (plan : List ℕ) → Passes plan → (bits old : List ℕ) (e : Cells) → DataFor plan bits → BurstOn plan e → BufferFor plan old
-    → readOutcome plan (blotted plan (writtenBytes plan bits) e) old ≡ readAs (reportOf (codeOf plan) e) (writtenBytes plan bits) bits
+    → readOutcome plan (corrupted plan (writtenBytes plan bits) e) old ≡ readAs (reportOf (codeOf plan) e) (writtenBytes plan bits) bits
 
 -- and where there is no burst: five zeros
 abbrev pub ReadClean : Type 0
@@ -132,7 +132,7 @@ pub record Answered (plan sheet old : List ℕ) : Type 0 where
   pub some-fits : (readOutcome plan sheet old .verdict .number ≡ 0) ↔ SomeFits plan sheet
   -- the burst that fits mends the sheet to one that belongs; this sheet, its data and the burst's report are given
   pub takes : (e : Cells) → BurstOn plan e → FitsOn plan sheet e
-      → readOutcome plan sheet old ≡ readAs (reportOf (codeOf plan) e) (blotted plan sheet e) (dataIn plan (blotted plan sheet e))
+      → readOutcome plan sheet old ≡ readAs (reportOf (codeOf plan) e) (corrupted plan sheet e) (dataIn plan (corrupted plan sheet e))
   -- a refusal has places 0, 0 and five zeros, and changes no byte
   pub refuses : NoneFits plan sheet → readOutcome plan sheet old ≡ refused (refusal 14 0 0) sheet old
 
@@ -163,11 +163,11 @@ abbrev pub Reports : Type 0
 Reports = (plan : List ℕ) (e : Cells) → BurstOn plan e → Reported plan e (reportOf (codeOf plan) e)
 
 pub record Turned (plan sheet : List ℕ) : Type 0 where
-  pub form : (e : Cells) → SheetFor plan (blotted plan sheet e)
+  pub form : (e : Cells) → SheetFor plan (corrupted plan sheet e)
   pub cell : (e : Cells) (i j : ℕ) → i < codeOf plan .n1 → j < codeOf plan .n2
-      → cellsOf plan (blotted plan sheet e) i j ≡ xor (cellsOf plan sheet i j) (e i j)
+      → cellsOf plan (corrupted plan sheet e) i j ≡ xor (cellsOf plan sheet i j) (e i j)
   pub empty-burst : BurstOn plan empty
-  pub empty-turns : SheetFor plan sheet → blotted plan sheet empty ≡ sheet
+  pub empty-turns : SheetFor plan sheet → corrupted plan sheet empty ≡ sheet
 
 abbrev pub Turns : Type 0
 Turns = (plan : List ℕ) → Passes plan → (sheet : List ℕ) → Turned plan sheet

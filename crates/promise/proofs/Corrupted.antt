@@ -1,7 +1,7 @@
 -- Sheets and data in bytes:
 --
---   blotted-form, blotted-cell   the sheet with a burst's cells turned over is of the right form, and its cells
---   blotted-none, blotted-back   turning over nothing, or the same cells twice, gives the sheet back
+--   corrupted-form, corrupted-cell   the sheet with a burst's cells turned over is of the right form, and its cells
+--   corrupted-none, corrupted-back   turning over nothing, or the same cells twice, gives the sheet back
 --   fits-cells, cells-fit        a burst fits the bytes exactly where it fits their cells
 --   data-bit                     the bits of the data that a sheet holds
 --   data-held                    a sheet that has the bits of some data holds that data
@@ -21,35 +21,35 @@ use Rattle.boxcode.specs.Check.{dataSize, dataOf}
 use Rattle.boxcode.proofs.Syndrome.{belongs-cells}
 use Rattle.plan.specs.Bytes.{codeOf}
 use Rattle.writer.specs.Write.{dataBits}
-use Rattle.promise.specs.Promise.{DataFor, SheetFor, FitsOn, cellsOf, dataIn, blotted, empty}
+use Rattle.promise.specs.Promise.{DataFor, SheetFor, FitsOn, cellsOf, dataIn, corrupted, empty}
 
 module _ (plan sheet : List ℕ) where
-  pub blotted-form : (e : Cells) → SheetFor plan (blotted plan sheet e)
-  unfolding blotted
-  blotted-form e = bytes-form (codeOf plan .n1) (codeOf plan .n2) (flip (cellsOf plan sheet) e)
+  pub corrupted-form : (e : Cells) → SheetFor plan (corrupted plan sheet e)
+  unfolding corrupted
+  corrupted-form e = bytes-form (codeOf plan .n1) (codeOf plan .n2) (flip (cellsOf plan sheet) e)
 
-  pub blotted-cell : (e : Cells) (i j : ℕ) → i < codeOf plan .n1 → j < codeOf plan .n2
-      → cellsOf plan (blotted plan sheet e) i j ≡ xor (cellsOf plan sheet i j) (e i j)
-  unfolding blotted
-  blotted-cell e = bytes-cell (codeOf plan .n1) (codeOf plan .n2) (flip (cellsOf plan sheet) e)
+  pub corrupted-cell : (e : Cells) (i j : ℕ) → i < codeOf plan .n1 → j < codeOf plan .n2
+      → cellsOf plan (corrupted plan sheet e) i j ≡ xor (cellsOf plan sheet i j) (e i j)
+  unfolding corrupted
+  corrupted-cell e = bytes-cell (codeOf plan .n1) (codeOf plan .n2) (flip (cellsOf plan sheet) e)
 
-  pub blotted-none : SheetFor plan sheet → blotted plan sheet empty ≡ sheet
-  blotted-none f =
-      same-bytes (codeOf plan .n1) (codeOf plan .n2) (blotted plan sheet empty) sheet (blotted-form empty) f
-      (λ i j li lj. blotted-cell empty i j li lj ∙ xor-none (cellsOf plan sheet i j))
+  pub corrupted-none : SheetFor plan sheet → corrupted plan sheet empty ≡ sheet
+  corrupted-none f =
+      same-bytes (codeOf plan .n1) (codeOf plan .n2) (corrupted plan sheet empty) sheet (corrupted-form empty) f
+      (λ i j li lj. corrupted-cell empty i j li lj ∙ xor-none (cellsOf plan sheet i j))
 
   pub fits-cells : (e : Cells) → FitsOn plan sheet e → Fits (codeOf plan) (cellsOf plan sheet) e
-  fits-cells e f = belongs-cells (codeOf plan) (cellsOf plan (blotted plan sheet e)) (flip (cellsOf plan sheet) e) (blotted-cell e) f
+  fits-cells e f = belongs-cells (codeOf plan) (cellsOf plan (corrupted plan sheet e)) (flip (cellsOf plan sheet) e) (corrupted-cell e) f
 
   pub cells-fit : (e : Cells) → Fits (codeOf plan) (cellsOf plan sheet) e → FitsOn plan sheet e
   cells-fit e f =
-      belongs-cells (codeOf plan) (flip (cellsOf plan sheet) e) (cellsOf plan (blotted plan sheet e)) (λ i j li lj. sym (blotted-cell e i j li lj)) f
+      belongs-cells (codeOf plan) (flip (cellsOf plan sheet) e) (cellsOf plan (corrupted plan sheet e)) (λ i j li lj. sym (corrupted-cell e i j li lj)) f
 
-pub blotted-back : (plan sheet : List ℕ) (e : Cells) → SheetFor plan sheet → blotted plan (blotted plan sheet e) e ≡ sheet
-blotted-back plan sheet e f =
-    same-bytes (codeOf plan .n1) (codeOf plan .n2) (blotted plan (blotted plan sheet e) e) sheet (blotted-form plan (blotted plan sheet e) e) f
+pub corrupted-back : (plan sheet : List ℕ) (e : Cells) → SheetFor plan sheet → corrupted plan (corrupted plan sheet e) e ≡ sheet
+corrupted-back plan sheet e f =
+    same-bytes (codeOf plan .n1) (codeOf plan .n2) (corrupted plan (corrupted plan sheet e) e) sheet (corrupted-form plan (corrupted plan sheet e) e) f
     (λ i j li lj.
-    blotted-cell plan (blotted plan sheet e) e i j li lj ∙ ap (λ (b : Bool). xor b (e i j)) (blotted-cell plan sheet e i j li lj)
+    corrupted-cell plan (corrupted plan sheet e) e i j li lj ∙ ap (λ (b : Bool). xor b (e i j)) (corrupted-cell plan sheet e i j li lj)
     ∙ xor-back (cellsOf plan sheet i j) (e i j))
 
 -- ---- data: one row of k cells
