@@ -13,11 +13,11 @@ use writer::writing::write;
 pub extern "C" fn sheet_plan_test(plan: &[u8]) -> u64
     ensures { λ r. ⌜ r ≡ planAnswer (now (plan .entry)) ⌝ }
 {
-    let v = test(plan);
+    let tested = test(plan);
     pack(Answer {
-        number: v.number,
-        p: v.p,
-        q: v.q,
+        number: tested.number,
+        p: tested.p,
+        q: tested.q,
         cells: 0,
         top: 0,
         left: 0,
@@ -31,11 +31,11 @@ pub extern "C" fn sheet_plan_test(plan: &[u8]) -> u64
 pub extern "C" fn sheet_write(plan: &[u8], bits: &[u8], sheet: &mut [u8]) -> u64
     ensures { λ r. ⌜ written r (now (sheet .exit)) ≡ writeCall (now (plan .entry)) (now (bits .entry)) (now (sheet .entry)) ⌝ }
 {
-    let v = write(plan, bits, sheet);
+    let wrote = write(plan, bits, sheet);
     pack(Answer {
-        number: v.number,
-        p: v.p,
-        q: v.q,
+        number: wrote.number,
+        p: wrote.p,
+        q: wrote.q,
         cells: 0,
         top: 0,
         left: 0,
