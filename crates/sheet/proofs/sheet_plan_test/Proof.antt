@@ -14,9 +14,9 @@ pack-requires : tie.Need-pack-requires
 pack-requires c κs =
     let f : Fits (c .test .result) = rw (c .test .ensures) (plan-fits (c .before .before .args .plan .now)) in
     record {
-      number-fits = f .number-fits;
-      p-fits = f .p-fits;
-      q-fits = f .q-fits;
+      number-fits = omega arith;
+      p-fits = omega arith;
+      q-fits = omega arith;
       cells-fits = omega arith;
       top-fits = omega arith;
       left-fits = omega arith;
