@@ -9,7 +9,8 @@
  *
  * What a caller owes: each length is the true length of its buffer, and a buffer that a call writes overlaps no other
  * buffer of that call. No pointer is null, also where its length is 0. Nothing else: any bytes may be handed in. The calls
- * use no heap, no globals and less than 64 KB of stack, keep no pointer, and may run in several threads at once.
+ * use no heap and no globals, keep no pointer, and may run in several threads at once. The plan test takes less than 64 KB
+ * of stack, writing and reading less than 96 KB.
  *
  * Every call makes all its checks before it writes. A call that turns something back changes no byte of any buffer.
  *
