@@ -2,7 +2,7 @@
 --
 --   start-fits       the window at i lies in the table
 --   part-length      a run has as many entries as it says
---   entries-length, entries-at, entries-next   the entries of a plan, and one more
+--   entries-length, entries-at, entries-next   the first entries of the row table, and one more
 --   Changed, changed-start, changed-next   a table whose words are changed one after another
 --   kept-most        at most 64 are kept
 --   run-free         a run is free where all of it is kept
@@ -20,13 +20,13 @@ use native.Mathlib.Omega.{arith}
 use lib.Dec.{eqb}
 use lib.ListN.{length, getD, take, drop, set, length-set, length-append, List·getD-append, length-take, length-drop, length-map}
 use lib.Seq.{take-suc-set, getD-append-seam, getD-take, getD-drop, getD-set-same, getD-set-other, ext-getD}
-use Rattle.layout.specs.Number.{u32At}
 use Rattle.gf2.specs.declared.Kept.{Kept}
 use Rattle.gf2.specs.Vectors.{freeFrom, part}
 use Rattle.gf2.specs.Swept.{swept, KeptOf}
 use Rattle.gf2.proofs.Vectors.{taken-le}
 use Rattle.gf2.proofs.Keeping.{kept-free, kept-append}
-use Rattle.accept.specs.Tables.{runsFree, sweptFree, entriesAt, spread, SweptFrom}
+use Rattle.plan.specs.Bytes.{rowEntryAt}
+use Rattle.accept.specs.Tables.{runsFree, sweptFree, rowEntries, spread, SweptFrom}
 
 pub start-fits : (i step size count : ℕ) → i < count → i * step + size ≤ spread step size count
 unfolding spread
@@ -55,29 +55,29 @@ part-mapped g a b words t l u e h =
     (λ k lk. map-at g (part a b words) k (omega arith) ∙ ap g (part-at a b words k (omega arith))
     ∙ sym (part-at a b t k (omega arith) ∙ h (a + k) (omega arith) (omega arith)))
 
-pub entries-length : (s : List ℕ) (at n : ℕ) → length (entriesAt s at n) ≡ n
-unfolding entriesAt
-entries-length s at zero = refl
-entries-length s at (suc n) = length-append (entriesAt s at n) (u32At s (at + 4 * n) ∷ []) ∙ omega (arith, entries-length s at n)
+pub entries-length : (s : List ℕ) (n : ℕ) → length (rowEntries s n) ≡ n
+unfolding rowEntries
+entries-length s zero = refl
+entries-length s (suc n) = length-append (rowEntries s n) (rowEntryAt s n ∷ []) ∙ omega (arith, entries-length s n)
 
-pub entries-at : (s : List ℕ) (at n k : ℕ) → k < n → getD (entriesAt s at n) k 0 ≡ u32At s (at + 4 * k)
-unfolding entriesAt
-entries-at s at zero k l = absurd (omega arith)
-entries-at s at (suc n) k l = go (decLt k n) (entries-at s at n k)
+pub entries-at : (s : List ℕ) (n k : ℕ) → k < n → getD (rowEntries s n) k 0 ≡ rowEntryAt s k
+unfolding rowEntries
+entries-at s zero k l = absurd (omega arith)
+entries-at s (suc n) k l = go (decLt k n) (entries-at s n k)
   where
-    go : Dec (k < n) → (k < n → getD (entriesAt s at n) k 0 ≡ u32At s (at + 4 * k))
-        → getD (entriesAt s at n ++ (u32At s (at + 4 * n) ∷ [])) k 0 ≡ u32At s (at + 4 * k)
-    go (yes p) h = List·getD-append (entriesAt s at n) (u32At s (at + 4 * n) ∷ []) 0 k (omega (arith, entries-length s at n)) ∙ h p
+    go : Dec (k < n) → (k < n → getD (rowEntries s n) k 0 ≡ rowEntryAt s k)
+        → getD (rowEntries s n ++ (rowEntryAt s n ∷ [])) k 0 ≡ rowEntryAt s k
+    go (yes p) h = List·getD-append (rowEntries s n) (rowEntryAt s n ∷ []) 0 k (omega (arith, entries-length s n)) ∙ h p
     go (no p) h =
         let e : k ≡ n = omega arith in
-        let f : n ≡ length (entriesAt s at n) = sym (entries-length s at n) in
-        ap (λ (x : ℕ). getD (entriesAt s at n ++ (u32At s (at + 4 * n) ∷ [])) x 0) (e ∙ f)
-        ∙ getD-append-seam (entriesAt s at n) (u32At s (at + 4 * n)) [] 0 ∙ rw e
+        let f : n ≡ length (rowEntries s n) = sym (entries-length s n) in
+        ap (λ (x : ℕ). getD (rowEntries s n ++ (rowEntryAt s n ∷ [])) x 0) (e ∙ f)
+        ∙ getD-append-seam (rowEntries s n) (rowEntryAt s n) [] 0 ∙ rw e
 
 -- one entry more is stored
-pub entries-next : (s : List ℕ) (at k : ℕ) (t : List ℕ) (x : ℕ) → k < length t → take k t ≡ entriesAt s at k → x ≡ u32At s (at + 4 * k)
-    → take (k + 1) (set t k x) ≡ entriesAt s at (k + 1)
-entries-next s at k t x l e h = rw (add-one k, take-suc-set t k x l, e, h) (unfold entriesAt in refl)
+pub entries-next : (s : List ℕ) (k : ℕ) (t : List ℕ) (x : ℕ) → k < length t → take k t ≡ rowEntries s k → x ≡ rowEntryAt s k
+    → take (k + 1) (set t k x) ≡ rowEntries s (k + 1)
+entries-next s k t x l e h = rw (add-one k, take-suc-set t k x l, e, h) (unfold rowEntries in refl)
 
 -- the words of t that stand from a place on and before k are changed by g, and those from k on are not
 pub record Changed (g : ℕ → ℕ) (from k : ℕ) (t₀ t : List ℕ) : Type 0 where

@@ -2,7 +2,7 @@
 --
 --   runsFree words size a b           the entries of the runs of size entries from a and from b, each position once, are free
 --   windowsFree words step size i j   the same of windows number i and j, when one starts step entries after the other
---   entriesAt s at n                  the n entries of 32 bits from a place of the plan s on
+--   rowEntries s n                    the first n entries of the row table of the plan s
 --   spread step size count            the entries of count windows of size entries, each step entries after the one before
 --   Windows                           bounds on these
 --   SweptFrom base words from t       t has the words from a place on as a base of some members leaves them
@@ -25,9 +25,9 @@ use Rattle.gf2.specs.Xor.{_⊕_}
 use Rattle.gf2.specs.Vectors.{freeFrom, listed, part}
 use Rattle.gf2.specs.Swept.{swept}
 use Rattle.gf2.specs.declared.Kept.{Kept}
-use Rattle.layout.specs.Number.{u32At}
 use Rattle.boxcode.specs.Code.{Code, checkJoint}
 use Rattle.boxcode.specs.Condition.{everyone, columnMember, columnDifference}
+use Rattle.plan.specs.Bytes.{rowEntryAt}
 use Rattle.accept.specs.declared.columns.Gathered.{Gathered}
 
 unfoldable pub runsFree : List ℕ → ℕ → ℕ → ℕ → Bool
@@ -36,9 +36,9 @@ runsFree words size a b = freeFrom [] (part a (a + size) words ++ part (max (a +
 abbrev pub windowsFree : List ℕ → ℕ → ℕ → ℕ → ℕ → Bool
 windowsFree words step size i j = runsFree words size (i * step) (j * step)
 
-unfoldable pub entriesAt : List ℕ → ℕ → ℕ → List ℕ
-entriesAt s at zero = []
-entriesAt s at (suc n) = entriesAt s at n ++ (u32At s (at + 4 * n) ∷ [])
+unfoldable pub rowEntries : List ℕ → ℕ → List ℕ
+rowEntries s zero = []
+rowEntries s (suc n) = rowEntries s n ++ (rowEntryAt s n ∷ [])
 
 unfoldable pub spread : ℕ → ℕ → ℕ → ℕ
 spread step size count = count * step + size - step

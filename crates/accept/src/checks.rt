@@ -9,8 +9,7 @@ ghost use Rattle.accept.specs.Tables.{Joint, Joints};
 ghost use Rattle.accept.specs.Verdict.{checksVerdict};
 use gf2::empty_basis;
 use gf2::extend;
-use plan::entry::check_column;
-use plan::entry::check_row;
+use plan::entry::check_cell;
 use plan::entry::column_weight;
 use plan::entry::row_weight;
 use plan::header::Header;
@@ -24,10 +23,9 @@ pub fn check_joint(plan: &[u8], h: Header, k: usize) -> u64
     requires { ⌜ k < h .rv + h .rh ⌝ }
     ensures { λ r. ⌜ Joint (codeWith (now (plan .entry)) h) k r ⌝ }
 {
-    let i = check_row(plan, h, k);
-    let j = check_column(plan, h, k);
-    let v = row_weight(plan, h, i, j);
-    let w = column_weight(plan, h, i, j);
+    let cell = check_cell(plan, h, k);
+    let v = row_weight(plan, h, cell.row, cell.column);
+    let w = column_weight(plan, h, cell.row, cell.column);
     v + (1u64 << h.rv) * w
 }
 

@@ -13,7 +13,7 @@ use crate::pairs::Pair;
 use crate::pairs::pair_verdict;
 use gf2::keep;
 use plan::header::Header;
-use plan::table::unpack;
+use plan::table::column_table;
 use plan::verdict::Verdict;
 
 // The members gathered so far: the first count words.
@@ -110,7 +110,7 @@ pub fn columns_verdict(plan: &[u8], h: Header) -> Verdict
     requires { ⌜ Framed (now plan) h ⌝ }
     ensures { λ r. ⌜ r ≡ columnsVerdict (codeWith (now (plan .entry)) h) ⌝ }
 {
-    let words = unpack(plan, h.columns, h.n2 * h.b1);
+    let words = column_table(plan, h);
     let count = h.n2 - h.b2 + 1;
     pair_verdict(9, search(&words, h.b1, h.b2, count))
 }

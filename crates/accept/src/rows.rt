@@ -5,14 +5,14 @@ ghost use lib.ListN.{length};
 ghost use Rattle.plan.specs.Header.{Framed};
 ghost use Rattle.plan.specs.Bytes.{codeWith};
 ghost use Rattle.accept.specs.Pairs.{firstFailing};
-ghost use Rattle.accept.specs.Tables.{SweptFrom, Windows, entriesAt, spread, sweptFree, windowsFree};
+ghost use Rattle.accept.specs.Tables.{SweptFrom, Windows, rowEntries, spread, sweptFree, windowsFree};
 ghost use Rattle.accept.specs.Verdict.{rowsVerdict};
 use crate::pairs::Pair;
 use crate::pairs::pair_verdict;
 use gf2::Kept;
 use gf2::keep;
 use gf2::sweep;
-use layout::number::u32_at;
+use plan::entry::row_entry;
 use plan::header::Header;
 use plan::verdict::Verdict;
 
@@ -26,14 +26,15 @@ fn larger(a: usize, b: usize) -> usize
     a
 }
 
-// The entries of 32 bits from a place of the plan on, as many as the table has.
-fn fill(plan: &[u8], at: usize, table: &mut [u64])
-    requires { ⌜ at + 4 * length (now table) ≤ length (now plan) ⌝ }
-    ensures { λ _. ⌜ now (table .exit) ≡ entriesAt (now (plan .entry)) at (length (now (table .entry))) ⌝ }
+// The first entries of the row table, as many as there is room for.
+fn fill(plan: &[u8], h: Header, table: &mut [u64])
+    requires { ⌜ Framed (now plan) h ⌝ }
+    requires { ⌜ length (now table) ≤ h .n1 * h .b2 ⌝ }
+    ensures { λ _. ⌜ now (table .exit) ≡ rowEntries (now (plan .entry)) (length (now (table .entry))) ⌝ }
 {
     let mut k = 0;
     while k < table.len() {
-        table[k] = u32_at(plan, at + 4 * k);
+        table[k] = row_entry(plan, h, k);
         k += 1;
     }
 }
@@ -64,14 +65,15 @@ fn pair_free(taken: usize, swept: &[u64], size: usize, first: usize, second: usi
 }
 
 // The first failing pair of windows, of which there are count. The table is filled anew for each first window, and swept by its words.
-fn search(plan: &[u8], at: usize, table: &mut [u64], step: usize, size: usize, count: usize) -> Pair
-    requires { ⌜ Windows step size count × (length (now table) ≡ spread step size count) × (at + 4 * length (now table) ≤ length (now plan)) ⌝ }
-    ensures { λ r. ⌜ r ≡ firstFailing (windowsFree (entriesAt (now (plan .entry)) at (spread step size count)) step size) (λ (i : ℕ). i) count ⌝ }
+fn search(plan: &[u8], h: Header, table: &mut [u64], step: usize, size: usize, count: usize) -> Pair
+    requires { ⌜ Framed (now plan) h ⌝ }
+    requires { ⌜ Windows step size count × (length (now table) ≡ spread step size count) × (length (now table) ≤ h .n1 * h .b2) ⌝ }
+    ensures { λ r. ⌜ r ≡ firstFailing (windowsFree (rowEntries (now (plan .entry)) (spread step size count)) step size) (λ (i : ℕ). i) count ⌝ }
 {
     let mut found = Pair::Clear;
     'search: for i in 0..count {
         let first = i * step;
-        fill(plan, at, table);
+        fill(plan, h, table);
         let base = keep(&table[first..first + size]);
         sweep_table(base, first + size, table);
         for j in i..count {
@@ -93,8 +95,5 @@ pub fn rows_verdict(plan: &[u8], h: Header) -> Verdict
     let entries = h.n1 * h.b2;
     let size = h.b1 * h.b2;
     let count = h.n1 - h.b1 + 1;
-    pair_verdict(
-        8,
-        search(plan, h.rows, &mut table[..entries], h.b2, size, count),
-    )
+    pair_verdict(8, search(plan, h, &mut table[..entries], h.b2, size, count))
 }

@@ -7,9 +7,9 @@ ghost use Rattle.accept.specs.Verdict.{conditionsVerdict, planVerdict};
 use crate::checks::checks_verdict;
 use crate::columns::columns_verdict;
 use crate::rows::rows_verdict;
+use plan::entry::header_of;
 use plan::form::form_verdict;
 use plan::header::Header;
-use plan::header::read;
 use plan::verdict::Verdict;
 
 // Checks 8 to 10, of a plan of the right form.
@@ -37,5 +37,5 @@ pub fn test(plan: &[u8]) -> Verdict
     if form.number != 0 {
         return form;
     }
-    conditions_verdict(plan, read(plan))
+    conditions_verdict(plan, header_of(plan))
 }

@@ -8,8 +8,8 @@ ghost use Rattle.buffers.specs.Buffers.{lengthVerdict, unusedVerdict, le
 use accept::test::test;
 use layout::cells::first_unused;
 use layout::cells::row_bytes;
+use plan::entry::header_of;
 use plan::header::Header;
-use plan::header::read;
 use plan::verdict::Verdict;
 use plan::verdict::refuse_if;
 
@@ -46,7 +46,7 @@ pub fn length_checks(plan: &[u8], sheet: &[u8], bits: &[u8]) -> Verdict
     if tested.number != 0 {
         return tested;
     }
-    let h = read(plan);
+    let h = header_of(plan);
     let first = length_verdict(11, sheet, h.n1 * row_bytes(h.n2));
     if first.number != 0 {
         return first;
@@ -62,7 +62,7 @@ pub fn write_checks(plan: &[u8], bits: &[u8], sheet: &[u8]) -> Verdict
     if lengths.number != 0 {
         return lengths;
     }
-    unused_verdict(bits, 1, data_size(read(plan)))
+    unused_verdict(bits, 1, data_size(header_of(plan)))
 }
 
 // The checks before reading.
@@ -73,6 +73,6 @@ pub fn read_checks(plan: &[u8], sheet: &[u8], bits: &[u8]) -> Verdict
     if lengths.number != 0 {
         return lengths;
     }
-    let h = read(plan);
+    let h = header_of(plan);
     unused_verdict(sheet, h.n1, h.n2)
 }

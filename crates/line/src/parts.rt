@@ -7,7 +7,7 @@ ghost use Rattle.line.specs.Line.{planSize};
 ghost use Rattle.line.specs.Parts.{DataSize};
 use layout::cells::row_bytes;
 use layout::number::u16_at;
-use plan::header::read;
+use plan::entry::header_of;
 
 // The larger of two numbers.
 fn larger(a: usize, b: usize) -> usize
@@ -40,7 +40,7 @@ pub fn data_bytes(plan: &[u8]) -> usize
     if plan.len() < 20 {
         return 0;
     }
-    let h = read(plan);
+    let h = header_of(plan);
     if 512 < h.n1 {
         return 0;
     }

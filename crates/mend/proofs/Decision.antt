@@ -29,7 +29,6 @@ use Rattle.boxcode.proofs.Laid.{none-found, strip-found, found-strip}
 use Rattle.mend.specs.Window.{inWindow, windowSum, entryAt}
 use Rattle.mend.specs.Strip.{wordAt, laidCell, laidRow, laidLine, laidSum, laidDigit, boxPattern, OnStrips}
 use Rattle.plan.specs.declared.header.Header.{Header}
-use Rattle.plan.specs.Header.{columnsStart}
 use Rattle.plan.specs.Bytes.{codeWith, columnEntryAt}
 use Rattle.plan.specs.Table.{Unpacked}
 use Rattle.mend.specs.declared.found.Found.{Found as Answer}
@@ -113,7 +112,7 @@ module _ (c : Code) (F : Formed c) (K : Conditions c) where
 -- ---- from the strips to the answer
 
 -- on the strips, the unpacked table is the plan's: so what the strips answer is right for the two sums
-pub strips-decide : (s : List ℕ) (h : Header) (words : List ℕ) → Usable s h → Unpacked s (columnsStart h) (h .n2 * h .b1) words
+pub strips-decide : (s : List ℕ) (h : Header) (words : List ℕ) → Usable s h → Unpacked s h words
     → (v t i x : ℕ) → i + h .b1 ≤ h .n1 → windowSum (codeWith s h) i (bit x) ≡ v
     → (r : Answer) → OnStrips h (wordAt words) i x t r → FoundFor (codeWith s h) v t r
 strips-decide s h words U T v t i x rows q = go

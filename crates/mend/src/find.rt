@@ -1,7 +1,5 @@
 // The burst for two sums. The first window that has a pattern with the V sum decides: no other pattern has that sum
 // (proofs/Decision.antt), so only the strips of this one are tried.
-ghost use Prim.Native.Nat.{_*_};
-ghost use Rattle.plan.specs.Header.{columnsStart};
 ghost use Rattle.plan.specs.Bytes.{codeWith};
 ghost use Rattle.plan.specs.Table.{Unpacked};
 ghost use Rattle.mend.specs.Usable.{Usable};
@@ -15,7 +13,7 @@ use plan::header::Header;
 // The search over the windows: a fit that fails leaves early, and only a pattern goes on to the strips.
 fn search(plan: &[u8], h: Header, columns: &[u64], v: u64, s: u64) -> Found
     requires { ⌜ Usable (now plan) h ⌝ }
-    requires { ⌜ Unpacked (now plan) (columnsStart h) (h .n2 * h .b1) (now columns) ⌝ }
+    requires { ⌜ Unpacked (now plan) h (now columns) ⌝ }
     ensures { λ r. ⌜ FoundFor (codeWith (now (plan .entry)) h) v s r ⌝ }
 {
     let count = h.n1 - h.b1 + 1;
@@ -32,7 +30,7 @@ fn search(plan: &[u8], h: Header, columns: &[u64], v: u64, s: u64) -> Found
 // Every window has the empty pattern, so a V sum of 0 is no matter of a search: only the empty burst has it, and its H sum is 0.
 pub fn find(plan: &[u8], h: Header, columns: &[u64], v: u64, s: u64) -> Found
     requires { ⌜ Usable (now plan) h ⌝ }
-    requires { ⌜ Unpacked (now plan) (columnsStart h) (h .n2 * h .b1) (now columns) ⌝ }
+    requires { ⌜ Unpacked (now plan) h (now columns) ⌝ }
     ensures { λ r. ⌜ FoundFor (codeWith (now (plan .entry)) h) v s r ⌝ }
 {
     if v != 0 {

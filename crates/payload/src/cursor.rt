@@ -7,8 +7,7 @@ ghost use Rattle.boxcode.specs.Code.{Formed};
 ghost use Rattle.plan.specs.Header.{Framed};
 ghost use Rattle.plan.specs.Bytes.{codeWith};
 ghost use Rattle.payload.specs.Walk.{nextCheck, At, Begun, Stepped};
-use plan::entry::check_column;
-use plan::entry::check_row;
+use plan::entry::check_cell;
 use plan::header::Header;
 
 // Place number `cell` of the data's order, the cell (row, column) that stands there, the number of data bits before
@@ -31,7 +30,8 @@ fn next_check(plan: &[u8], h: Header, q: usize) -> usize
     if q == h.rv + h.rh {
         return h.n1 * h.n2;
     }
-    check_row(plan, h, q) * h.n2 + check_column(plan, h, q)
+    let cell = check_cell(plan, h, q);
+    cell.row * h.n2 + cell.column
 }
 
 // The row of the cell after a cell.

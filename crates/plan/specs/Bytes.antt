@@ -2,7 +2,8 @@
 --
 --   rowEntryAt, columnEntryAt        the entry at a position of the row table V and of the column table H
 --   checkRowAt, checkColumnAt        row and column of a pair of the check list
---   Weight                           what is promised of a cell's entry
+--   checkCellAt                      the pair, as the code has it
+--   Weight, CheckCell                what is promised of a cell's entry and of a pair
 --   codeOf                           all of a plan, as the code's mathematics has it
 use Prim.Native.Nat.{ℕ, _+_, _*_, _<_}
 use mathlib.Core.Path.{_≡_}
@@ -10,6 +11,7 @@ use mathlib.Core.List.{List}
 use Rattle.layout.specs.Number.{u16At, u32At}
 use Rattle.boxcode.specs.Code.{Code}
 use Rattle.plan.specs.declared.header.Header.{Header}
+use Rattle.plan.specs.declared.view.Cell.{Cell}
 use Rattle.plan.specs.Header.{headerLength, headerOf, columnsStart, checksStart}
 
 abbrev pub rowEntryAt : List ℕ → ℕ → ℕ
@@ -23,6 +25,9 @@ checkRowAt s h k = u16At s (checksStart h + 4 * k)
 
 abbrev pub checkColumnAt : List ℕ → Header → ℕ → ℕ
 checkColumnAt s h k = u16At s (checksStart h + 4 * k + 2)
+
+abbrev pub checkCellAt : List ℕ → Header → ℕ → Cell
+checkCellAt s h k = record { row = checkRowAt s h k; column = checkColumnAt s h k }
 
 -- the code with the header h in the bytes s
 abbrev pub codeWith : List ℕ → Header → Code
@@ -46,3 +51,9 @@ codeOf s = codeWith s (headerOf s)
 pub record Weight (w r : ℕ) : Type 0 where
   pub value : r ≡ w
   pub below : r < 4294967296
+
+-- what is promised of pair k of the check list: its two numbers, and that they fit 16 bits
+pub record CheckCell (s : List ℕ) (h : Header) (k : ℕ) (r : Cell) : Type 0 where
+  pub value : r ≡ checkCellAt s h k
+  pub row-below : r .row < 65536
+  pub column-below : r .column < 65536

@@ -1,13 +1,24 @@
-// Fetching from a plan whose header is right: a V entry, an H entry, a check cell.
+// Fetching from a plan with plain parameters: each function makes a view and looks through it, so that no caller holds one.
 ghost use mathlib.Core.Path.{_≡_};
-ghost use Prim.Native.Nat.{_+_, _*_, _<_};
-ghost use Rattle.layout.specs.Number.{Number16, Number32};
+ghost use Prim.Native.Nat.{_+_, _*_, _≤_, _<_};
+ghost use lib.ListN.{length};
+ghost use Rattle.layout.specs.Number.{Number32};
 ghost use Rattle.boxcode.specs.Code.{rowWeight, columnWeight};
-ghost use Rattle.plan.specs.Header.{Framed, headerLength, columnsStart, checksStart};
-ghost use Rattle.plan.specs.Bytes.{codeWith, Weight};
+ghost use Rattle.plan.specs.Header.{Framed, headerLength, headerOf, columnsStart};
+ghost use Rattle.plan.specs.Bytes.{codeWith, Weight, CheckCell};
 use crate::header::Header;
-use layout::number::u16_at;
-use layout::number::u32_at;
+use crate::view;
+use crate::view::Cell;
+use crate::view::View;
+use crate::view::over;
+
+// The header of a plan that has one.
+pub fn header_of(plan: &[u8]) -> Header
+    requires { ⌜ headerLength ≤ length (now plan) ⌝ }
+    ensures { λ r. ⌜ r ≡ headerOf (now (plan .entry)) ⌝ }
+{
+    over(plan).header
+}
 
 // The entry at a position of the row table V.
 pub fn row_entry(plan: &[u8], h: Header, k: usize) -> u64
@@ -15,7 +26,7 @@ pub fn row_entry(plan: &[u8], h: Header, k: usize) -> u64
     requires { ⌜ k < h .n1 * h .b2 ⌝ }
     ensures { λ r. ⌜ Number32 (now (plan .entry)) (headerLength + 4 * k) r ⌝ }
 {
-    u32_at(plan, h.rows + 4 * k)
+    view::row_entry(View { plan, header: h }, k)
 }
 
 // The entry at a position of the column table H.
@@ -24,25 +35,16 @@ pub fn column_entry(plan: &[u8], h: Header, k: usize) -> u64
     requires { ⌜ k < h .n2 * h .b1 ⌝ }
     ensures { λ r. ⌜ Number32 (now (plan .entry)) (columnsStart h + 4 * k) r ⌝ }
 {
-    u32_at(plan, h.columns + 4 * k)
+    view::column_entry(View { plan, header: h }, k)
 }
 
-// The row of a pair of the check list.
-pub fn check_row(plan: &[u8], h: Header, k: usize) -> usize
+// The check cell at a position of the check list.
+pub fn check_cell(plan: &[u8], h: Header, k: usize) -> Cell
     requires { ⌜ Framed (now plan) h ⌝ }
     requires { ⌜ k < h .rv + h .rh ⌝ }
-    ensures { λ r. ⌜ Number16 (now (plan .entry)) (checksStart h + 4 * k) r ⌝ }
+    ensures { λ r. ⌜ CheckCell (now (plan .entry)) h k r ⌝ }
 {
-    u16_at(plan, h.checks + 4 * k)
-}
-
-// The column of a pair of the check list.
-pub fn check_column(plan: &[u8], h: Header, k: usize) -> usize
-    requires { ⌜ Framed (now plan) h ⌝ }
-    requires { ⌜ k < h .rv + h .rh ⌝ }
-    ensures { λ r. ⌜ Number16 (now (plan .entry)) (checksStart h + 4 * k + 2) r ⌝ }
-{
-    u16_at(plan, h.checks + 4 * k + 2)
+    view::check_cell(View { plan, header: h }, k)
 }
 
 // The V entry of a cell.

@@ -1,21 +1,21 @@
 // The rules of form: checks 1 to 7 of document 01.
 ghost use mathlib.Core.Path.{_≡_};
-ghost use Prim.Native.Nat.{ℕ, _+_, _*_, _≤_, _<_};
+ghost use Prim.Native.Nat.{_+_, _*_, _≤_, _<_};
 ghost use lib.ListN.{length};
-ghost use Rattle.layout.specs.Number.{u32At};
 ghost use Rattle.finite.specs.Search.{least};
 ghost use Rattle.plan.specs.Header.{Small, Framed};
 ghost use Rattle.plan.specs.Bytes.{codeWith};
+ghost use Rattle.plan.specs.Table.{size, entryOf};
 ghost use Rattle.plan.specs.Form.{badBurst, badSheet, badWidths, badOffsets, fieldsVerdict, headerVerdict, firstLarge, entriesVerdict, rises, badPair, listVerdict, formVerdict};
-use crate::entry::check_column;
-use crate::entry::check_row;
+use crate::entry::check_cell;
+use crate::entry::header_of;
 use crate::header::Header;
 use crate::header::LENGTH;
-use crate::header::read;
+use crate::table::Table;
+use crate::table::entry;
 use crate::verdict::Verdict;
 use crate::verdict::refuse;
 use crate::verdict::refuse_if;
-use layout::number::u32_at;
 
 // Check 2: the burst's size.
 fn bad_burst(h: Header) -> bool
@@ -76,18 +76,19 @@ pub fn header_verdict(plan: &[u8]) -> Verdict
     if plan.len() < LENGTH {
         return refuse(1, 0, 0);
     }
-    fields_verdict(plan.len(), read(plan))
+    fields_verdict(plan.len(), header_of(plan))
 }
 
-// The first of count entries from a place on that has more than width bits, or count.
-fn first_large(plan: &[u8], from: usize, count: usize, width: usize) -> usize
-    requires { ⌜ (from + 4 * count ≤ length (now plan)) × (width ≤ 32) ⌝ }
-    ensures { λ r. ⌜ r ≡ firstLarge count width (λ (k : ℕ). u32At (now (plan .entry)) (from + 4 * k)) ⌝ }
+// The first of count entries of a table that has more than width bits, or count.
+fn first_large(plan: &[u8], h: Header, t: Table, count: usize, width: usize) -> usize
+    requires { ⌜ Framed (now plan) h ⌝ }
+    requires { ⌜ (count ≤ size h t) × (width ≤ 32) ⌝ }
+    ensures { λ r. ⌜ r ≡ firstLarge count width (entryOf (now (plan .entry)) h t) ⌝ }
 {
     let limit = 1u64 << width;
     let mut k = 0;
     while k < count {
-        if limit <= u32_at(plan, from + 4 * k) {
+        if limit <= entry(plan, h, t, k) {
             return k;
         }
         k += 1;
@@ -101,12 +102,12 @@ pub fn entries_verdict(plan: &[u8], h: Header) -> Verdict
     ensures { λ r. ⌜ r ≡ entriesVerdict (codeWith (now (plan .entry)) h) ⌝ }
 {
     let rows = h.n1 * h.b2;
-    let large_row = first_large(plan, h.rows, rows, h.rv);
+    let large_row = first_large(plan, h, Table::Rows, rows, h.rv);
     if large_row < rows {
         return refuse(6, 0, large_row);
     }
     let columns = h.n2 * h.b1;
-    let large_column = first_large(plan, h.columns, columns, h.rh);
+    let large_column = first_large(plan, h, Table::Columns, columns, h.rh);
     refuse_if(large_column < columns, 6, 1, large_column)
 }
 
@@ -119,11 +120,9 @@ fn pair_rises(plan: &[u8], h: Header, k: usize) -> bool
     if k == 0 {
         return true;
     }
-    let row = check_row(plan, h, k);
-    let column = check_column(plan, h, k);
-    let row_before = check_row(plan, h, k - 1);
-    let column_before = check_column(plan, h, k - 1);
-    (row_before < row) | ((row_before == row) & (column_before < column))
+    let before = check_cell(plan, h, k - 1);
+    let here = check_cell(plan, h, k);
+    (before.row < here.row) | ((before.row == here.row) & (before.column < here.column))
 }
 
 // A pair of the check list is off the sheet or out of order.
@@ -132,9 +131,8 @@ fn bad_pair(plan: &[u8], h: Header, k: usize) -> bool
     requires { ⌜ k < h .rv + h .rh ⌝ }
     ensures { λ r. ⌜ r ≡ badPair (codeWith (now (plan .entry)) h) k ⌝ }
 {
-    let row = check_row(plan, h, k);
-    let column = check_column(plan, h, k);
-    (h.n1 <= row) | (h.n2 <= column) | !pair_rises(plan, h, k)
+    let here = check_cell(plan, h, k);
+    (h.n1 <= here.row) | (h.n2 <= here.column) | !pair_rises(plan, h, k)
 }
 
 // The first such pair, or the length of the list.
@@ -170,7 +168,7 @@ pub fn form_verdict(plan: &[u8]) -> Verdict
     if header.number != 0 {
         return header;
     }
-    let h = read(plan);
+    let h = header_of(plan);
     let entries = entries_verdict(plan, h);
     if entries.number != 0 {
         return entries;

@@ -21,8 +21,8 @@ pub struct Header {
     pub length: usize,
 }
 
-// The header of a plan that has one.
-pub fn read(plan: &[u8]) -> Header
+// The header of a plan that has one. Others look at it through a view.
+pub(crate) fn read(plan: &[u8]) -> Header
     requires { ⌜ headerLength ≤ length (now plan) ⌝ }
     ensures { λ r. ⌜ r ≡ headerOf (now (plan .entry)) ⌝ }
 {

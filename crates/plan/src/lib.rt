@@ -4,3 +4,4 @@ pub mod form;
 pub mod header;
 pub mod table;
 pub mod verdict;
+pub mod view;

@@ -1,21 +1,40 @@
-// A table of a plan, unpacked once from its bytes into words.
-ghost use Prim.Native.Nat.{_+_, _*_, _≤_};
-ghost use lib.ListN.{length};
-ghost use Rattle.plan.specs.Table.{Unpacked};
-use layout::number::u32_at;
+// The two tables of a plan, and the column table unpacked once into words.
+ghost use Prim.Native.Nat.{_+_, _*_, _<_};
+ghost use Rattle.layout.specs.Number.{Number32};
+ghost use Rattle.plan.specs.Header.{Framed};
+ghost use Rattle.plan.specs.Table.{start, size, Unpacked};
+use crate::entry::column_entry;
+use crate::entry::row_entry;
+use crate::header::Header;
 
-// The entries of the largest table: 698 columns by bursts of 4 rows.
-pub const ENTRIES: usize = 2792;
+// The row table V, the column table H.
+pub enum Table {
+    Rows,
+    Columns,
+}
 
-// The count entries of 32 bits from a place on; zeros after them.
-pub fn unpack(plan: &[u8], from: usize, count: usize) -> [u64; 2792]
-    requires { ⌜ (count ≤ 2792) × (from + 4 * count ≤ length (now plan)) ⌝ }
-    ensures { λ r. ⌜ Unpacked (now (plan .entry)) from count r ⌝ }
+// The entry at a position of a table.
+pub fn entry(plan: &[u8], h: Header, t: Table, k: usize) -> u64
+    requires { ⌜ Framed (now plan) h ⌝ }
+    requires { ⌜ k < size h t ⌝ }
+    ensures { λ r. ⌜ Number32 (now (plan .entry)) (start h t + 4 * k) r ⌝ }
+{
+    match t {
+        Table::Rows => row_entry(plan, h, k),
+        Table::Columns => column_entry(plan, h, k),
+    }
+}
+
+// The column table, at most 698 columns by bursts of 4 rows; zeros after its entries.
+pub fn column_table(plan: &[u8], h: Header) -> [u64; 2792]
+    requires { ⌜ Framed (now plan) h ⌝ }
+    ensures { λ r. ⌜ Unpacked (now (plan .entry)) h r ⌝ }
 {
     let mut words = [0u64; 2792];
+    let count = h.n2 * h.b1;
     let mut k = 0;
     while k < count {
-        words[k] = u32_at(plan, from + 4 * k);
+        words[k] = column_entry(plan, h, k);
         k += 1;
     }
     words

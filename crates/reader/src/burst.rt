@@ -15,7 +15,7 @@ use mend::found::Found;
 use mend::report::report_of;
 use payload::transfer::take;
 use plan::header::Header;
-use plan::table::unpack;
+use plan::table::column_table;
 use plan::verdict::accept;
 use syndrome::gather::sums;
 
@@ -25,7 +25,7 @@ pub fn find_burst(plan: &[u8], h: Header, sheet: &[u8]) -> Found
     requires { ⌜ length (now sheet) ≡ sheetBytes (h .n1) (h .n2) ⌝ }
     ensures { λ r. ⌜ FoundFor (codeWith (now (plan .entry)) h) (rowSyndrome (codeWith (now (plan .entry)) h) (cellOf (h .n2) (now (sheet .entry)))) (columnSyndrome (codeWith (now (plan .entry)) h) (cellOf (h .n2) (now (sheet .entry)))) r ⌝ }
 {
-    let columns = unpack(plan, h.columns, h.n2 * h.b1);
+    let columns = column_table(plan, h);
     let s = sums(sheet, plan, h, &columns);
     find(plan, h, &columns, s.row, s.column)
 }

@@ -12,7 +12,7 @@ use crate::burst::apply_burst;
 use crate::burst::find_burst;
 use buffers::lent::read_checks;
 use mend::found::Found;
-use plan::header;
+use plan::entry::header_of;
 use plan::header::Header;
 use plan::verdict::refuse;
 
@@ -37,5 +37,5 @@ pub fn read(plan: &[u8], sheet: &mut [u8], bits: &mut [u8]) -> Answer
     if checked.number != 0 {
         return refused_as(checked);
     }
-    mend_sheet(plan, header::read(plan), sheet, bits)
+    mend_sheet(plan, header_of(plan), sheet, bits)
 }

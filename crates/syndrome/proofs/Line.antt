@@ -24,7 +24,7 @@ use Rattle.gf2.proofs.Sum.{sum-none}
 use Rattle.layout.specs.Cells.{rowBytes, byteOf, cellOf}
 use Rattle.boxcode.specs.Code.{rowWeight, columnWeight}
 use Rattle.boxcode.specs.Syndrome.{Cells}
-use Rattle.plan.specs.Header.{Framed, columnsStart}
+use Rattle.plan.specs.Header.{Framed}
 use Rattle.plan.specs.Bytes.{rowEntryAt, codeWith}
 use Rattle.plan.specs.Table.{Unpacked}
 use Rattle.plan.specs.declared.header.Header.{Header}
@@ -71,7 +71,7 @@ line-next n2 p f g row column b x r L l cells two = record {
 
 -- ---- the tables of a plan
 
-module _ (s : List ℕ) (h : Header) (F : Framed s h) (columns : List ℕ) (U : Unpacked s (columnsStart h) (h .n2 * h .b1) columns)
+module _ (s : List ℕ) (h : Header) (F : Framed s h) (columns : List ℕ) (U : Unpacked s h columns)
     (i : ℕ) (li : i < h .n1) (rows : List ℕ) (R : RowWords (λ k. rowEntryAt s (i * h .b2 + k)) (h .b2) rows) where
   pub words-of : Words (h .n2) (h .b1) (h .b2) (i % h .b1) rows columns
   words-of = record {

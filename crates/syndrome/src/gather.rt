@@ -3,7 +3,7 @@ ghost use mathlib.Core.Path.{_≡_};
 ghost use Prim.Native.Nat.{ℕ, _+_, _-_, _*_, _%_, _≤_, _<_, min};
 ghost use lib.ListN.{length};
 ghost use Rattle.layout.specs.Cells.{sheetBytes, cellOf};
-ghost use Rattle.plan.specs.Header.{Framed, columnsStart};
+ghost use Rattle.plan.specs.Header.{Framed};
 ghost use Rattle.plan.specs.Bytes.{rowEntryAt, codeWith};
 ghost use Rattle.plan.specs.Table.{Unpacked};
 ghost use Rattle.syndrome.specs.Gather.{RowWords, Words, ByteSums, RowSums, SheetSums};
@@ -88,7 +88,7 @@ fn byte_sums(
 // The sums of row i.
 pub fn row_sums(sheet: &[u8], plan: &[u8], h: Header, columns: &[u64], i: usize) -> Sums
     requires { ⌜ Framed (now plan) h ⌝ }
-    requires { ⌜ Unpacked (now plan) (columnsStart h) (h .n2 * h .b1) (now columns) ⌝ }
+    requires { ⌜ Unpacked (now plan) h (now columns) ⌝ }
     requires { ⌜ length (now sheet) ≡ sheetBytes (h .n1) (h .n2) ⌝ }
     requires { ⌜ i < h .n1 ⌝ }
     ensures { λ r. ⌜ RowSums (codeWith (now (plan .entry)) h) (cellOf (h .n2) (now (sheet .entry))) i r ⌝ }
@@ -112,7 +112,7 @@ pub fn row_sums(sheet: &[u8], plan: &[u8], h: Header, columns: &[u64], i: usize)
 // The two sums of a sheet, row after row.
 pub fn sums(sheet: &[u8], plan: &[u8], h: Header, columns: &[u64]) -> Sums
     requires { ⌜ Framed (now plan) h ⌝ }
-    requires { ⌜ Unpacked (now plan) (columnsStart h) (h .n2 * h .b1) (now columns) ⌝ }
+    requires { ⌜ Unpacked (now plan) h (now columns) ⌝ }
     requires { ⌜ length (now sheet) ≡ sheetBytes (h .n1) (h .n2) ⌝ }
     ensures { λ r. ⌜ SheetSums (codeWith (now (plan .entry)) h) (cellOf (h .n2) (now (sheet .entry))) r ⌝ }
 {

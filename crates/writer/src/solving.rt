@@ -15,7 +15,7 @@ use gf2::Solution;
 use gf2::solve;
 use gf2::solver_of;
 use plan::header::Header;
-use plan::table::unpack;
+use plan::table::column_table;
 use syndrome::gather::sums;
 
 // The joint sum of a sheet: its V sum, and its H sum above the rv digits of that.
@@ -25,7 +25,7 @@ pub fn joint_sum(sheet: &[u8], plan: &[u8], h: Header) -> u64
     requires { ⌜ length (now sheet) ≡ sheetBytes (h .n1) (h .n2) ⌝ }
     ensures { λ r. ⌜ JointSum (codeWith (now (plan .entry)) h) (cellOf (h .n2) (now (sheet .entry))) r ⌝ }
 {
-    let columns = unpack(plan, h.columns, h.n2 * h.b1);
+    let columns = column_table(plan, h);
     let s = sums(sheet, plan, h, &columns);
     s.row + (1u64 << h.rv) * s.column
 }

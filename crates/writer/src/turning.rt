@@ -9,8 +9,7 @@ ghost use Rattle.plan.specs.Header.{Framed};
 ghost use Rattle.plan.specs.Bytes.{codeWith, checkRowAt, checkColumnAt};
 ghost use Rattle.writer.specs.Steps.{turnedTo};
 use layout::cells::turn_if;
-use plan::entry::check_column;
-use plan::entry::check_row;
+use plan::entry::check_cell;
 use plan::header::Header;
 
 // Check cell k, if digit k of y is 1.
@@ -21,9 +20,8 @@ fn turn_check(plan: &[u8], h: Header, y: u64, k: usize, sheet: &mut [u8])
     requires { ⌜ length (now sheet) ≡ sheetBytes (h .n1) (h .n2) ⌝ }
     ensures { λ _. ⌜ now (sheet .exit) ≡ turnedIf (bit y k) (h .n2) (now (sheet .entry)) (checkRowAt (now (plan .entry)) h k) (checkColumnAt (now (plan .entry)) h k) ⌝ }
 {
-    let i = check_row(plan, h, k);
-    let j = check_column(plan, h, k);
-    turn_if(sheet, h.n2, i, j, (y >> k) % 2 == 1);
+    let cell = check_cell(plan, h, k);
+    turn_if(sheet, h.n2, cell.row, cell.column, (y >> k) % 2 == 1);
 }
 
 // Those check cells whose digit of y is 1.

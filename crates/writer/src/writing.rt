@@ -13,8 +13,8 @@ use crate::solving::joint_sum;
 use crate::turning::turn_checks;
 use buffers::lent::write_checks;
 use payload::transfer::put;
+use plan::entry::header_of;
 use plan::header::Header;
-use plan::header::read;
 use plan::verdict::Verdict;
 
 // The sheet written under an accepted plan: the data in its cells, and then the check cells that bring both sums to 0.
@@ -40,6 +40,6 @@ pub fn write(plan: &[u8], bits: &[u8], sheet: &mut [u8]) -> Verdict
     if verdict.number != 0 {
         return verdict;
     }
-    write_sheet(plan, read(plan), bits, sheet);
+    write_sheet(plan, header_of(plan), bits, sheet);
     verdict
 }

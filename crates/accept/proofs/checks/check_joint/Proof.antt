@@ -2,53 +2,47 @@
 use Rattle.plan.specs.Bytes.{codeWith}
 use Prim.Native.Nat.{_+_, _*_, _%_, _^_, _≤_}
 use Rattle.accept.specs.Tables.{Joint}
-use mathlib.Core.Path.{_≡_, refl, sym, ap, _∙_}
+use mathlib.Core.Path.{_≡_}
 use native.Mathlib.Omega.{arith}
 use Rattle.accept.proofs.JointEntries.{joint-word, shift-exact, joint-of}
 use borrow.Author.Needs.{needs}
 use Rattle.accept.proofs.checks.check_joint.Statement.{statement}
 use Rattle.accept.proofs.checks.check_joint.Tie as tie
 
-check-row-requires : tie.Need-check-row-requires
-check-row-requires c κs = search needs
-
-check-column-requires : tie.Need-check-column-requires
-check-column-requires c κs = search needs
+check-cell-requires : tie.Need-check-cell-requires
+check-cell-requires c κs = search needs
 
 row-weight-requires : tie.Need-row-weight-requires
 row-weight-requires c κs =
-    let s = c .before .before .before in
-    let e = c .before .check-row .ensures .value in
-    (s .pre .0, rw e (s .pre .1 .0 .check-rows (s .args .k) (s .pre .1 .1)))
+    let s = c .before .before in
+    (s .pre .0, rw (c .check-cell .ensures .value) (s .pre .1 .0 .check-rows (s .args .k) (s .pre .1 .1)))
 
 column-weight-requires : tie.Need-column-weight-requires
 column-weight-requires c κs =
-    let s = c .before .before .before .before in
-    let e = c .before .check-column .ensures .value in
-    (s .pre .0, rw e (s .pre .1 .0 .check-columns (s .args .k) (s .pre .1 .1)))
+    let s = c .before .before .before in
+    (s .pre .0, rw (c .before .check-cell .ensures .value) (s .pre .1 .0 .check-columns (s .args .k) (s .pre .1 .1)))
 
 shl-result : tie.Need-shl-result
 shl-result c = search needs
 
 -- what the shift gives, that rv + rh digits fit a word, and the joint entry
-exact : (c : tie.After-column-weight) → 1 * 2 ^ c .before .before .before .before .before .args .h .rv % 18446744073709551616 ≡ 2 ^ c .before .before .before .before .before .args .h .rv
-exact c = shift-exact (c .before .before .before .before .before .args .h .rv) (c .before .before .before .before .before .pre .0 .small .rv-most)
+exact : (c : tie.After-column-weight) → 1 * 2 ^ c .before .before .before .before .args .h .rv % 18446744073709551616 ≡ 2 ^ c .before .before .before .before .args .h .rv
+exact c = shift-exact (c .before .before .before .before .args .h .rv) (c .before .before .before .before .pre .0 .small .rv-most)
 
-word : (c : tie.After-column-weight) → 2 ^ (c .before .before .before .before .before .args .h .rv + c .before .before .before .before .before .args .h .rh) ≤ 2 ^ 64
+word : (c : tie.After-column-weight) → 2 ^ (c .before .before .before .before .args .h .rv + c .before .before .before .before .args .h .rh) ≤ 2 ^ 64
 word c =
-    let p = c .before .before .before .before .before .pre .0 .small in
-    joint-word (c .before .before .before .before .before .args .h .rv) (c .before .before .before .before .before .args .h .rh) (p .rv-most) (p .rh-most)
+    let p = c .before .before .before .before .pre .0 .small in
+    joint-word (c .before .before .before .before .args .h .rv) (c .before .before .before .before .args .h .rh) (p .rv-most) (p .rh-most)
 
 whole : (c : tie.After-column-weight)
-    → Joint (codeWith (c .before .before .before .before .before .args .plan .now) (c .before .before .before .before .before .args .h))
-    (c .before .before .before .before .before .args .k)
-    (c .before .row-weight .result + 2 ^ c .before .before .before .before .before .args .h .rv * c .column-weight .result)
+    → Joint (codeWith (c .before .before .before .before .args .plan .now) (c .before .before .before .before .args .h))
+    (c .before .before .before .before .args .k)
+    (c .before .row-weight .result + 2 ^ c .before .before .before .before .args .h .rv * c .column-weight .result)
 whole c =
-    let s = c .before .before .before .before .before in
-    let i = c .before .before .before .check-row .ensures .value in
-    let j = c .before .before .check-column .ensures .value in
+    let s = c .before .before .before .before in
+    let e = c .before .before .check-cell .ensures .value in
     joint-of (codeWith (s .args .plan .now) (s .args .h)) (s .pre .1 .0) (s .args .k) _ _ (s .pre .1 .1)
-    (rw (i, j) at (c .before .row-weight .ensures .value)) (rw (i, j) at (c .column-weight .ensures .value))
+    (rw e at (c .before .row-weight .ensures .value)) (rw e at (c .column-weight .ensures .value))
 
 mul-result : tie.Need-mul-result
 mul-result c = let j = whole c in let e = word c in rw (exact c) (omega (arith, j .below))
@@ -63,8 +57,7 @@ pub check-joint-spec : {M : Type 1} → statement M
 check-joint-spec =
     tie.close
     (tie.spec
-    check-row-requires
-    check-column-requires
+    check-cell-requires
     row-weight-requires
     column-weight-requires
     shl-result

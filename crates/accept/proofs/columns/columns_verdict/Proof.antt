@@ -11,11 +11,8 @@ use borrow.Author.Needs.{needs}
 use Rattle.accept.proofs.columns.columns_verdict.Statement.{statement}
 use Rattle.accept.proofs.columns.columns_verdict.Tie as tie
 
-mul-unpack : tie.Need-mul-unpack
-mul-unpack c = search needs
-
-unpack-requires : tie.Need-unpack-requires
-unpack-requires c κs = search needs
+column-table-requires : tie.Need-column-table-requires
+column-table-requires c κs = search needs
 
 sub-count : tie.Need-sub-count
 sub-count c = search needs
@@ -28,9 +25,9 @@ slice-aggregate-search c = search needs
 
 search-requires : tie.Need-search-requires
 search-requires c κs =
-    let s = c .before .before .before .before .before in
+    let s = c .before .before .before .before in
     let p = s .pre .small in
-    let n = c .before .before .unpack .ensures .size in
+    let n = c .before .before .column-table .ensures .size in
     let e : s .args .h .n2 - s .args .h .b2 + 1 + s .args .h .b2 ≡ suc (s .args .h .n2) = omega arith in
     record {
       height-most = p .b1-most;
@@ -47,20 +44,19 @@ pair-verdict-requires c κs = search needs
 returns : tie.Need-returns
 unfolding columnsVerdict
 returns c =
-    let s = c .before .before .before .before .before .before .before in
+    let s = c .before .before .before .before .before .before in
     let p = s .pre .small in
-    let u = c .before .before .before .before .unpack .ensures in
+    let u = c .before .before .before .before .column-table .ensures in
     c .pair-verdict .ensures
     ∙ ap (pairVerdict 9) (c .before .search .ensures
-    ∙ columns-search (codeWith (s .args .plan .now) (s .args .h)) (c .before .before .before .before .unpack .result) (p .b1-pos) (p .b2-pos) (p .n2-least)
-    (λ k l. sym (rw (s .pre .columns-at) at (u .entry k l))))
+    ∙ columns-search (codeWith (s .args .plan .now) (s .args .h)) (c .before .before .before .before .column-table .result) (p .b1-pos) (p .b2-pos) (p .n2-least)
+    (λ k l. sym (u .entry k l)))
 
 pub columns-verdict-spec : {M : Type 1} → statement M
 columns-verdict-spec =
     tie.close
     (tie.spec
-    mul-unpack
-    unpack-requires
+    column-table-requires
     sub-count
     add-count
     slice-aggregate-search

@@ -5,29 +5,23 @@ use native.Mathlib.Omega.{arith}
 use borrow.Author.Needs.{needs}
 use lib.ListN.{length, take, length-set}
 use lib.Seq.{take-all}
-use Rattle.accept.specs.Tables.{entriesAt}
+use Rattle.accept.specs.Tables.{rowEntries}
 use Rattle.accept.proofs.Windows.{entries-next}
 use Rattle.accept.proofs.rows.fill.Statement.{statement}
 use Rattle.accept.proofs.rows.fill.Tie as tie
 
 abbrev Inv-loop : tie.InvT-loop
-Inv-loop plan at table₀ k₀ table k = (k ≤ length table₀) × (length table ≡ length table₀) × (take k table ≡ entriesAt plan at k)
+Inv-loop plan h table₀ k₀ table k = (k ≤ length table₀) × (length table ≡ length table₀) × (take k table ≡ rowEntries plan k)
 
 abbrev μ-loop : tie.MeasureT-loop
-μ-loop plan at table₀ k₀ table k = length table₀ - k
+μ-loop plan h table₀ k₀ table k = length table₀ - k
 
 loop-holds : tie.Need-loop-holds Inv-loop μ-loop
-unfolding entriesAt
+unfolding rowEntries
 loop-holds c = (omega arith, refl, refl)
 
-mul-u32-at : tie.Need-mul-u32-at Inv-loop μ-loop
-mul-u32-at c = search needs
-
-add-u32-at : tie.Need-add-u32-at Inv-loop μ-loop
-add-u32-at c = search needs
-
-u32-at-requires : tie.Need-u32-at-requires Inv-loop μ-loop
-u32-at-requires c κs = search needs
+row-entry-requires : tie.Need-row-entry-requires Inv-loop μ-loop
+row-entry-requires c κs = search needs
 
 mul-table : tie.Need-mul-table Inv-loop μ-loop
 mul-table c = search needs
@@ -46,7 +40,7 @@ loop-again c =
     let l = c .before .before .loop in (
       omega arith,
       length-set (l .table) (l .k) _ ∙ l .inv .1,
-      entries-next _ _ (l .k) (l .table) _ (omega arith) (l .inv .2) (c .u32-at .ensures .value),
+      entries-next _ (l .k) (l .table) _ (omega arith) (l .inv .2) (c .row-entry .ensures .value),
     )
 
 same-length : tie.Need-same-length Inv-loop μ-loop
@@ -56,7 +50,7 @@ returns : tie.Need-returns Inv-loop μ-loop
 returns c =
     let l = c .before .loop in
     let e : l .k ≡ length (c .before .before .before .before .args .table .now) = omega arith in
-    sym (take-all (l .k) (l .table) (omega arith)) ∙ l .inv .2 ∙ ap (entriesAt _ _) e
+    sym (take-all (l .k) (l .table) (omega arith)) ∙ l .inv .2 ∙ ap (rowEntries _) e
 
 pub fill-spec : {M : Type 1} → statement M
 fill-spec =
@@ -65,9 +59,7 @@ fill-spec =
     Inv-loop
     μ-loop
     loop-holds
-    mul-u32-at
-    add-u32-at
-    u32-at-requires
+    row-entry-requires
     mul-table
     slice-write-table
     add-k

@@ -1,12 +1,11 @@
 -- `accept::rows::rows_verdict` meets its contract: the table has the row entries, so the search is the code's. Assumes nothing.
 use mathlib.Core.Path.{sym, ap, _∙_}
-use Prim.Native.Nat.{ℕ, _+_, _*_, _≤_}
+use Prim.Native.Nat.{_*_, _≤_}
 use native.Mathlib.Omega.{arith}
 use lib.Seq.{length-take-le}
-use Rattle.layout.specs.Number.{u32At}
 use Rattle.plan.specs.Bytes.{codeWith}
 use Rattle.accept.specs.Pairs.{pairVerdict}
-use Rattle.accept.specs.Tables.{entriesAt}
+use Rattle.accept.specs.Tables.{rowEntries}
 use Rattle.accept.specs.Verdict.{rowsVerdict}
 use Rattle.accept.proofs.Windows.{entries-length, entries-at}
 use Rattle.accept.proofs.RowPairs.{windows-spread, rows-search}
@@ -38,7 +37,7 @@ search-requires c κs =
     let p = s .pre .small in
     let w = windows-spread (s .args .h .n1) (s .args .h .b1) (s .args .h .b2) (p .n1-least) in
     let e : s .args .h .n1 * s .args .h .b2 ≤ 2048 = omega arith in
-    (record { step-most = p .b2-most; size-most = omega arith; few = omega arith }, length-take-le _ _ e ∙ sym w, rw (length-take-le _ _ e) (omega arith))
+    (s .pre, (record { step-most = p .b2-most; size-most = omega arith; few = omega arith }, length-take-le _ _ e ∙ sym w, rw (length-take-le _ _ e) (omega arith)))
 
 pair-verdict-requires : tie.Need-pair-verdict-requires
 pair-verdict-requires c κs = search needs
@@ -49,11 +48,10 @@ returns c =
     let s = c .before .before .before .before .before .before .before .before in
     let p = s .pre .small in
     let n = windows-spread (s .args .h .n1) (s .args .h .b1) (s .args .h .b2) (p .n1-least) in
-    let m = entries-length (s .args .plan .now) (s .args .h .rows) (s .args .h .n1 * s .args .h .b2) in
+    let m = entries-length (s .args .plan .now) (s .args .h .n1 * s .args .h .b2) in
     c .pair-verdict .ensures
-    ∙ ap (pairVerdict 8) ((rw n at (c .before .before .search .ensures)) ∙ rows-search (codeWith (s .args .plan .now) (s .args .h)) (entriesAt (s .args .plan .now) (s .args .h .rows) (s .args .h .n1 * s .args .h .b2)) (p .b2-pos) (omega arith)
-    (λ k l. sym (entries-at (s .args .plan .now) (s .args .h .rows) (s .args .h .n1 * s .args .h .b2) k l
-    ∙ ap (λ (x : ℕ). u32At (s .args .plan .now) (x + 4 * k)) (s .pre .rows-at))) (p .n1-least))
+    ∙ ap (pairVerdict 8) ((rw n at (c .before .before .search .ensures)) ∙ rows-search (codeWith (s .args .plan .now) (s .args .h)) (rowEntries (s .args .plan .now) (s .args .h .n1 * s .args .h .b2)) (p .b2-pos) (omega arith)
+    (λ k l. sym (entries-at (s .args .plan .now) (s .args .h .n1 * s .args .h .b2) k l)) (p .n1-least))
 
 pub rows-verdict-spec : {M : Type 1} → statement M
 rows-verdict-spec =

@@ -8,7 +8,7 @@ use native.Mathlib.Omega.{arith}
 use borrow.Author.Tests.{not-true, not-false}
 use Rattle.accept.specs.declared.pairs.Pair.the-variants.{Clear}
 use Rattle.accept.specs.Pairs.{inRow, fromRow, firstFailing}
-use Rattle.accept.specs.Tables.{entriesAt, spread, windowsFree}
+use Rattle.accept.specs.Tables.{rowEntries, spread, windowsFree}
 use Rattle.accept.proofs.Pairing.{row-next, row-fails, row-end, rows-next, rows-end}
 use Rattle.accept.proofs.Windows.{start-fits, entries-length, kept-most, runs-swept}
 use borrow.Author.Needs.{needs}
@@ -16,22 +16,22 @@ use Rattle.accept.proofs.rows.search.Statement.{statement}
 use Rattle.accept.proofs.rows.search.Tie as tie
 
 abbrev Inv-loop : tie.InvT-loop
-Inv-loop plan at table step size count found₀ i first base j₀ found j =
-    let ok = windowsFree (entriesAt plan at (spread step size count)) step size in
+Inv-loop plan h table step size count found₀ i first base j₀ found j =
+    let ok = windowsFree (rowEntries plan (spread step size count)) step size in
     (i ≤ j) × (j ≤ count) × (found ≡ Clear)
     × (firstFailing ok (λ k. k) count ≡ inRow ok i j (count - j) (fromRow ok (λ k. k) count (i + 1) (count - (i + 1))))
 
 abbrev μ-loop : tie.MeasureT-loop
-μ-loop plan at table step size count found₀ i first base j₀ found j = count - j
+μ-loop plan h table step size count found₀ i first base j₀ found j = count - j
 
 abbrev Inv-search : tie.InvT-search
-Inv-search plan at table₀ step size count found₀ i₀ table found i =
-    let ok = windowsFree (entriesAt plan at (spread step size count)) step size in
+Inv-search plan h table₀ step size count found₀ i₀ table found i =
+    let ok = windowsFree (rowEntries plan (spread step size count)) step size in
     (i ≤ count) × (length table ≡ spread step size count) × (found ≡ Clear)
     × (firstFailing ok (λ k. k) count ≡ fromRow ok (λ k. k) count i (count - i))
 
 abbrev μ-search : tie.MeasureT-search
-μ-search plan at table₀ step size count found₀ i₀ table found i = count - i
+μ-search plan h table₀ step size count found₀ i₀ table found i = count - i
 
 -- window i lies in the table, and so does window j
 first-in : (c : tie.In-search Inv-loop μ-loop Inv-search μ-search) → c .before .search .i * c .before .before .before .before .args .step + c .before .before .before .before .args .size ≤ spread (c .before .before .before .before .args .step) (c .before .before .before .before .args .size) (c .before .before .before .before .args .count)
@@ -45,25 +45,25 @@ rising c = mul-le-mul-right (c .before .before .before .before .before .before .
 
 -- the pair test is that of the entries
 tested : (c : tie.After-pair-free Inv-loop μ-loop Inv-search μ-search)
-    → windowsFree (entriesAt (c .before .before .before .before .before .before .before .before .before .before .before .before .before .before .before .before .before .before .before .args .plan .now) (c .before .before .before .before .before .before .before .before .before .before .before .before .before .before .before .before .before .before .before .args .at) (spread (c .before .before .before .before .before .before .before .before .before .before .before .before .before .before .before .before .before .before .before .args .step) (c .before .before .before .before .before .before .before .before .before .before .before .before .before .before .before .before .before .before .before .args .size) (c .before .before .before .before .before .before .before .before .before .before .before .before .before .before .before .before .before .before .before .args .count))) (c .before .before .before .before .before .before .before .before .before .before .before .before .before .before .before .before .before .before .before .args .step) (c .before .before .before .before .before .before .before .before .before .before .before .before .before .before .before .before .before .before .before .args .size) (c .before .before .before .before .before .before .before .before .before .before .before .before .before .before .before .before .search .i) (c .before .before .before .loop .j)
+    → windowsFree (rowEntries (c .before .before .before .before .before .before .before .before .before .before .before .before .before .before .before .before .before .before .before .args .plan .now) (spread (c .before .before .before .before .before .before .before .before .before .before .before .before .before .before .before .before .before .before .before .args .step) (c .before .before .before .before .before .before .before .before .before .before .before .before .before .before .before .before .before .before .before .args .size) (c .before .before .before .before .before .before .before .before .before .before .before .before .before .before .before .before .before .before .before .args .count))) (c .before .before .before .before .before .before .before .before .before .before .before .before .before .before .before .before .before .before .before .args .step) (c .before .before .before .before .before .before .before .before .before .before .before .before .before .before .before .before .before .before .before .args .size) (c .before .before .before .before .before .before .before .before .before .before .before .before .before .before .before .before .search .i) (c .before .before .before .loop .j)
     ≡ c .pair-free .result
 tested c =
-    let p = c .before .before .before .before .before .before .before .before .before .before .before .before .before .before .before .before .before .before .before .pre .0 in
-    let e = c .before .before .before .before .before .before .before .before .before .before .before .before .before .fill .ensures ∙ ap (entriesAt _ _) (c .before .before .before .before .before .before .before .before .before .before .before .before .before .before .before .before .search .inv .1) in
-    let n = entries-length (c .before .before .before .before .before .before .before .before .before .before .before .before .before .before .before .before .before .before .before .args .plan .now) (c .before .before .before .before .before .before .before .before .before .before .before .before .before .before .before .before .before .before .before .args .at) (spread (c .before .before .before .before .before .before .before .before .before .before .before .before .before .before .before .before .before .before .before .args .step) (c .before .before .before .before .before .before .before .before .before .before .before .before .before .before .before .before .before .before .before .args .size) (c .before .before .before .before .before .before .before .before .before .before .before .before .before .before .before .before .before .before .before .args .count)) in
+    let p = c .before .before .before .before .before .before .before .before .before .before .before .before .before .before .before .before .before .before .before .pre .1 .0 in
+    let e = c .before .before .before .before .before .before .before .before .before .before .before .before .before .fill .ensures ∙ ap (rowEntries _) (c .before .before .before .before .before .before .before .before .before .before .before .before .before .before .before .before .search .inv .1) in
+    let n = entries-length (c .before .before .before .before .before .before .before .before .before .before .before .before .before .before .before .before .before .before .before .args .plan .now) (spread (c .before .before .before .before .before .before .before .before .before .before .before .before .before .before .before .before .before .before .before .args .step) (c .before .before .before .before .before .before .before .before .before .before .before .before .before .before .before .before .before .before .before .args .size) (c .before .before .before .before .before .before .before .before .before .before .before .before .before .before .before .before .before .before .before .args .count)) in
     runs-swept _ (c .before .before .before .before .before .before .before .before .before .before .before .before .before .before .before .before .before .before .before .args .size) _ _ e (omega arith) (rising (c .before .before)) (omega (arith, second-in (c .before .before)))
     (c .before .before .before .before .before .before .before .before .keep .ensures) (c .before .before .before .before .before .before .sweep-table .ensures)
     ∙ sym (c .pair-free .ensures)
 
 search-holds : tie.Need-search-holds Inv-loop μ-loop Inv-search μ-search
 unfolding firstFailing
-search-holds c = (omega arith, c .before .before .pre .1, refl, ap (fromRow _ _ _ 0) (sym (sub-zero (c .before .before .args .count))))
+search-holds c = (omega arith, c .before .before .pre .1 .1, refl, ap (fromRow _ _ _ 0) (sym (sub-zero (c .before .before .args .count))))
 
 mul-first : tie.Need-mul-first Inv-loop μ-loop Inv-search μ-search
 mul-first c = let w = first-in c in omega (arith, c .before .search .inv .1)
 
 fill-requires : tie.Need-fill-requires Inv-loop μ-loop Inv-search μ-search
-fill-requires c κs = omega (arith, c .before .before .search .inv .1, c .before .before .before .before .before .pre)
+fill-requires c κs = let p = c .before .before .before .before .before .pre in (p .0, omega (arith, c .before .before .search .inv .1, p .1))
 
 add-keep : tie.Need-add-keep Inv-loop μ-loop Inv-search μ-search
 add-keep c = let w = first-in (c .before .before .before .before) in omega (arith, c .before .before .before .before .before .search .inv .1)
@@ -78,7 +78,7 @@ part-keep-start : tie.Need-part-keep-start Inv-loop μ-loop Inv-search μ-search
 part-keep-start c = search needs
 
 part-keep-end : tie.Need-part-keep-end Inv-loop μ-loop Inv-search μ-search
-part-keep-end c = let n = ap length (c .before .before .before .fill .ensures) ∙ entries-length _ _ _ in omega (arith, first-in (c .before .before .before .before .before), c .before .before .before .before .before .before .search .inv .1)
+part-keep-end c = let n = ap length (c .before .before .before .fill .ensures) ∙ entries-length _ _ in omega (arith, first-in (c .before .before .before .before .before), c .before .before .before .before .before .before .search .inv .1)
 
 keep-requires : tie.Need-keep-requires Inv-loop μ-loop Inv-search μ-search
 keep-requires c κs = search needs
@@ -88,7 +88,7 @@ add-sweep-table c = let w = first-in (c .before .before .before .before .before 
 
 sweep-table-requires : tie.Need-sweep-table-requires Inv-loop μ-loop Inv-search μ-search
 sweep-table-requires c κs =
-    let n = ap length (c .before .before .before .before .before .before .fill .ensures) ∙ entries-length _ _ _ in
+    let n = ap length (c .before .before .before .before .before .before .fill .ensures) ∙ entries-length _ _ in
     (kept-most (c .before .keep .ensures), c .before .keep .ensures .size, omega (arith, first-in (c .before .before .before .before .before .before .before .before), c .before .before .before .before .before .before .before .before .before .search .inv .1))
 
 loop-holds : tie.Need-loop-holds Inv-loop μ-loop Inv-search μ-search
@@ -101,8 +101,8 @@ mul-pair-free c = let w = second-in (c .before) in omega (arith, c .before .befo
 
 pair-free-requires : tie.Need-pair-free-requires Inv-loop μ-loop Inv-search μ-search
 pair-free-requires c κs =
-    let p = c .before .before .before .before .before .before .before .before .before .before .before .before .before .before .before .before .before .before .pre .0 in
-    let n = c .before .before .before .before .before .sweep-table .ensures .size ∙ (ap length (c .before .before .before .before .before .before .before .before .before .before .before .before .fill .ensures) ∙ entries-length _ _ _) in
+    let p = c .before .before .before .before .before .before .before .before .before .before .before .before .before .before .before .before .before .before .pre .1 .0 in
+    let n = c .before .before .before .before .before .sweep-table .ensures .size ∙ (ap length (c .before .before .before .before .before .before .before .before .before .before .before .before .fill .ensures) ∙ entries-length _ _) in
     (omega arith, rising (c .before), omega (arith, second-in (c .before), c .before .before .before .before .before .before .before .before .before .before .before .before .before .before .before .search .inv .1))
 
 add-j : tie.Need-add-j Inv-loop μ-loop Inv-search μ-search
@@ -129,7 +129,7 @@ search-less c = search needs
 search-again : tie.Need-search-again Inv-loop μ-loop Inv-search μ-search
 search-again c =
     let l = c .before .loop in
-    let n = c .before .before .before .before .sweep-table .ensures .size ∙ (ap length (c .before .before .before .before .before .before .before .before .before .before .before .fill .ensures) ∙ entries-length _ _ _) in
+    let n = c .before .before .before .before .sweep-table .ensures .size ∙ (ap length (c .before .before .before .before .before .before .before .before .before .before .before .fill .ensures) ∙ entries-length _ _) in
     (omega arith, n ∙ c .before .before .before .before .before .before .before .before .before .before .before .before .before .before .search .inv .1, l .inv .2, l .inv .3 ∙ row-end _ _ _ _ _ (c .loop-test .left))
 
 same-length : tie.Need-same-length Inv-loop μ-loop Inv-search μ-search
@@ -140,8 +140,8 @@ returns c = c .before .search .inv .2 ∙ sym (c .before .search .inv .3 ∙ row
 
 same-length-2 : tie.Need-same-length-2 Inv-loop μ-loop Inv-search μ-search
 same-length-2 c =
-    let n = c .before .before .before .before .before .before .before .sweep-table .ensures .size ∙ (ap length (c .before .before .before .before .before .before .before .before .before .before .before .before .before .before .fill .ensures) ∙ entries-length _ _ _) in
-    omega (arith, n, c .before .before .before .before .before .before .before .before .before .before .before .before .before .before .before .before .before .search .inv .1, c .before .before .before .before .before .before .before .before .before .before .before .before .before .before .before .before .before .before .before .before .pre .1)
+    let n = c .before .before .before .before .before .before .before .sweep-table .ensures .size ∙ (ap length (c .before .before .before .before .before .before .before .before .before .before .before .before .before .before .fill .ensures) ∙ entries-length _ _) in
+    omega (arith, n, c .before .before .before .before .before .before .before .before .before .before .before .before .before .before .before .before .before .search .inv .1, c .before .before .before .before .before .before .before .before .before .before .before .before .before .before .before .before .before .before .before .before .pre .1 .1)
 
 returns-2 : tie.Need-returns-2 Inv-loop μ-loop Inv-search μ-search
 returns-2 c =

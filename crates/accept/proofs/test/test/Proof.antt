@@ -1,6 +1,5 @@
 -- `accept::test::test` meets its contract: the conditions are asked for only where the rules of form hold. Assumes nothing.
-use mathlib.Core.Path.{_≡_, refl, sym, ap, _∙_}
-use mathlib.Core.List.{List}
+use mathlib.Core.Path.{_≡_, sym, ap, _∙_}
 use native.Mathlib.Omega.{arith}
 use Rattle.boxcode.specs.Code.{Formed}
 use Rattle.plan.specs.declared.verdict.Verdict.{Verdict}
@@ -31,20 +30,20 @@ unfolding planVerdict
 returns c =
     rw (← (c .before .before .form-verdict .ensures)) (sym (else-first _ _ (c .if1 .taken)))
 
-read-requires : tie.Need-read-requires
-read-requires c κs = let f = ready c .0 in omega arith
+header-of-requires : tie.Need-header-of-requires
+header-of-requires c κs = let f = ready c .0 in omega arith
 
 conditions-verdict-requires : tie.Need-conditions-verdict-requires
 unfolding codeOf
-conditions-verdict-requires c κs = rw (c .read .ensures) (ready (c .before))
+conditions-verdict-requires c κs = rw (c .header-of .ensures) (ready (c .before))
 
 returns-2 : tie.Need-returns-2
 unfolding planVerdict codeOf
 returns-2 c =
     let s = c .before .before .before .before .before .before .args .plan .now in
-    c .conditions-verdict .ensures ∙ rw (c .before .read .ensures) (sym (else-second (formVerdict s) (conditionsVerdict (codeOf s)) (passes (c .before .before))))
+    c .conditions-verdict .ensures ∙ rw (c .before .header-of .ensures) (sym (else-second (formVerdict s) (conditionsVerdict (codeOf s)) (passes (c .before .before))))
 
 pub test-spec : {M : Type 1} → statement M
 test-spec =
     tie.close
-    (tie.spec form-verdict-requires returns read-requires conditions-verdict-requires returns-2)
+    (tie.spec form-verdict-requires returns header-of-requires conditions-verdict-requires returns-2)

@@ -27,7 +27,7 @@ first : (c : tie.After-length-verdict)
     → c .length-verdict .result
     ≡ lengthVerdict 11 (c .before .before .before .before .before .before .before .before .before .before .args .sheet .now) (sheetBytes (codeOf (c .before .before .before .before .before .before .before .before .before .before .args .plan .now) .n1) (codeOf (c .before .before .before .before .before .before .before .before .before .before .args .plan .now) .n2))
 unfolding sheetBytes codeOf
-first c = c .length-verdict .ensures ∙ rw (c .before .before .row-bytes .ensures, c .before .before .before .read .ensures)
+first c = c .length-verdict .ensures ∙ rw (c .before .before .row-bytes .ensures, c .before .before .before .header-of .ensures)
 
 test-requires : tie.Need-test-requires
 test-requires c κs = search needs
@@ -36,20 +36,20 @@ returns : tie.Need-returns
 unfolding lengthChecks
 returns c = stops _ _ (c .before .before .test .ensures) (c .if1 .taken)
 
-read-requires : tie.Need-read-requires
-read-requires c κs = let A = ready c in omega arith
+header-of-requires : tie.Need-header-of-requires
+header-of-requires c κs = let A = ready c in omega arith
 
 row-bytes-requires : tie.Need-row-bytes-requires
 unfolding codeOf
-row-bytes-requires c κs = let A = ready (c .before) in rw (c .read .ensures) (omega (arith, A .formed .n2-most))
+row-bytes-requires c κs = let A = ready (c .before) in rw (c .header-of .ensures) (omega (arith, A .formed .n2-most))
 
 mul-length-verdict : tie.Need-mul-length-verdict
 unfolding codeOf
 mul-length-verdict c =
     let A = ready (c .before .before .before) in
-    let e = rw (c .before .before .read .ensures) at (c .before .row-bytes .ensures) in
+    let e = rw (c .before .before .header-of .ensures) at (c .before .row-bytes .ensures) in
     let m = bytes-most _ _ (A .formed) e in
-    rw (c .before .before .read .ensures) (omega arith)
+    rw (c .before .before .header-of .ensures) (omega arith)
 
 length-verdict-requires : tie.Need-length-verdict-requires
 length-verdict-requires c κs = search needs
@@ -62,14 +62,14 @@ data-size-requires : tie.Need-data-size-requires
 unfolding codeOf
 data-size-requires c κs =
     let A = ready (c .before .before .before .before .before .before) in
-    rw (c .before .before .before .before .before .read .ensures) (A .framed .small, checks-fit _ (A .formed))
+    rw (c .before .before .before .before .before .header-of .ensures) (A .framed .small, checks-fit _ (A .formed))
 
 row-bytes-requires-2 : tie.Need-row-bytes-requires-2
 unfolding codeOf dataSize
 row-bytes-requires-2 c κs =
     let A = ready (c .before .before .before .before .before .before .before) in
     let m = size-most _ (A .formed) in
-    rw (c .data-size .ensures, c .before .before .before .before .before .before .read .ensures) (omega arith)
+    rw (c .data-size .ensures, c .before .before .before .before .before .before .header-of .ensures) (omega arith)
 
 length-verdict-requires-2 : tie.Need-length-verdict-requires-2
 length-verdict-requires-2 c κs = search needs
@@ -77,7 +77,7 @@ length-verdict-requires-2 c κs = search needs
 returns-3 : tie.Need-returns-3
 unfolding lengthChecks dataSize codeOf
 returns-3 c =
-    let r = c .before .before .before .before .before .before .before .before .read .ensures in
+    let r = c .before .before .before .before .before .before .before .before .header-of .ensures in
     goes-on _ _ (passes (c .before .before .before .before .before .before .before .before .before))
     (goes-on _ _ (ap (λ (v : Verdict). v .number) (sym (first (c .before .before .before .before .before))) ∙ c .before .before .before .if2 .left)
     (c .length-verdict2 .ensures ∙ rw (c .before .row-bytes2 .ensures, c .before .before .data-size .ensures, r)))
@@ -88,7 +88,7 @@ length-checks-spec =
     (tie.spec
     test-requires
     returns
-    read-requires
+    header-of-requires
     row-bytes-requires
     mul-length-verdict
     length-verdict-requires

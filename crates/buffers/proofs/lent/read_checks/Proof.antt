@@ -22,21 +22,21 @@ length-checks-requires c κs = search needs
 returns : tie.Need-returns
 returns c = stops _ _ (c .before .before .length-checks .ensures) (c .if1 .taken) ∙ sym (read-joined _ _ _)
 
-read-requires : tie.Need-read-requires
-read-requires c κs = let L = ready c in omega (arith, L .accepted .framed .long)
+header-of-requires : tie.Need-header-of-requires
+header-of-requires c κs = let L = ready c in omega (arith, L .accepted .framed .long)
 
 unused-verdict-requires : tie.Need-unused-verdict-requires
 unfolding codeOf
 unused-verdict-requires c κs =
     let L = ready (c .before) in
-    rw (c .read .ensures) (omega (arith, L .accepted .formed .n2-most), L .sheet-size)
+    rw (c .header-of .ensures) (omega (arith, L .accepted .formed .n2-most), L .sheet-size)
 
 returns-2 : tie.Need-returns-2
 unfolding codeOf
 returns-2 c =
-    goes-on _ _ (passes (c .before .before)) (c .unused-verdict .ensures ∙ rw (c .before .read .ensures)) ∙ sym (read-joined _ _ _)
+    goes-on _ _ (passes (c .before .before)) (c .unused-verdict .ensures ∙ rw (c .before .header-of .ensures)) ∙ sym (read-joined _ _ _)
 
 pub read-checks-spec : {M : Type 1} → statement M
 read-checks-spec =
     tie.close
-    (tie.spec length-checks-requires returns read-requires unused-verdict-requires returns-2)
+    (tie.spec length-checks-requires returns header-of-requires unused-verdict-requires returns-2)

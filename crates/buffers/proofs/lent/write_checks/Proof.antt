@@ -24,26 +24,26 @@ length-checks-requires c κs = search needs
 returns : tie.Need-returns
 returns c = stops _ _ (c .before .before .length-checks .ensures) (c .if1 .taken) ∙ sym (write-joined _ _ _)
 
-read-requires : tie.Need-read-requires
-read-requires c κs = let L = ready c in omega (arith, L .accepted .framed .long)
+header-of-requires : tie.Need-header-of-requires
+header-of-requires c κs = let L = ready c in omega (arith, L .accepted .framed .long)
 
 data-size-requires : tie.Need-data-size-requires
 unfolding codeOf
 data-size-requires c κs =
     let A = ready (c .before) .accepted in
-    rw (c .read .ensures) (A .framed .small, checks-fit _ (A .formed))
+    rw (c .header-of .ensures) (A .framed .small, checks-fit _ (A .formed))
 
 unused-verdict-requires : tie.Need-unused-verdict-requires
 unfolding codeOf dataSize
 unused-verdict-requires c κs =
     let L = ready (c .before .before) in
     let m = size-most _ (L .accepted .formed) in
-    rw (c .data-size .ensures, c .before .read .ensures) (omega arith, L .bits-size ∙ sym (row-sheet _))
+    rw (c .data-size .ensures, c .before .header-of .ensures) (omega arith, L .bits-size ∙ sym (row-sheet _))
 
 returns-2 : tie.Need-returns-2
 unfolding codeOf dataSize
 returns-2 c =
-    goes-on _ _ (passes (c .before .before .before)) (c .unused-verdict .ensures ∙ rw (c .before .data-size .ensures, c .before .before .read .ensures))
+    goes-on _ _ (passes (c .before .before .before)) (c .unused-verdict .ensures ∙ rw (c .before .data-size .ensures, c .before .before .header-of .ensures))
     ∙ sym (write-joined _ _ _)
 
 pub write-checks-spec : {M : Type 1} → statement M
@@ -52,7 +52,7 @@ write-checks-spec =
     (tie.spec
     length-checks-requires
     returns
-    read-requires
+    header-of-requires
     data-size-requires
     unused-verdict-requires
     returns-2)

@@ -16,31 +16,31 @@ use Rattle.line.proofs.parts.data_bytes.Tie as tie
 returns : tie.Need-returns
 returns c = search needs
 
-read-requires : tie.Need-read-requires
-read-requires c κs = search needs
+header-of-requires : tie.Need-header-of-requires
+header-of-requires c κs = search needs
 
 returns-2 : tie.Need-returns-2
 returns-2 c = record {
   most = omega arith;
-  right = λ A. let e = ap (λ (h : Header). h .n1) (c .before .before .read .ensures) in absurd (omega (arith, A .framed .small .n1-most));
+  right = λ A. let e = ap (λ (h : Header). h .n1) (c .before .before .header-of .ensures) in absurd (omega (arith, A .framed .small .n1-most));
 }
 
 returns-3 : tie.Need-returns-3
 returns-3 c = record {
   most = omega arith;
-  right = λ A. let e = ap (λ (h : Header). h .n2) (c .before .before .before .before .read .ensures) in absurd (omega (arith, A .framed .small .n2-most));
+  right = λ A. let e = ap (λ (h : Header). h .n2) (c .before .before .before .before .header-of .ensures) in absurd (omega (arith, A .framed .small .n2-most));
 }
 
 returns-4 : tie.Need-returns-4
 returns-4 c = record {
   most = omega arith;
-  right = λ A. let e = ap (λ (h : Header). h .rv) (c .before .before .before .before .before .before .read .ensures) in absurd (omega (arith, A .framed .small .rv-most));
+  right = λ A. let e = ap (λ (h : Header). h .rv) (c .before .before .before .before .before .before .header-of .ensures) in absurd (omega (arith, A .framed .small .rv-most));
 }
 
 returns-5 : tie.Need-returns-5
 returns-5 c = record {
   most = omega arith;
-  right = λ A. let e = ap (λ (h : Header). h .rh) (c .before .before .before .before .before .before .before .before .read .ensures) in absurd (omega (arith, A .framed .small .rh-most));
+  right = λ A. let e = ap (λ (h : Header). h .rh) (c .before .before .before .before .before .before .before .before .header-of .ensures) in absurd (omega (arith, A .framed .small .rh-most));
 }
 
 mul-cells : tie.Need-mul-cells
@@ -54,8 +54,8 @@ unfolding codeOf
 returns-6 c = record {
   most = omega arith;
   right = λ A.
-      let p = ap (λ (h : Header). h .n1 * h .n2) (c .before .before .before .before .before .before .before .before .before .before .before .read .ensures) in
-      let q = ap (λ (h : Header). h .rv + h .rh) (c .before .before .before .before .before .before .before .before .before .before .before .read .ensures) in
+      let p = ap (λ (h : Header). h .n1 * h .n2) (c .before .before .before .before .before .before .before .before .before .before .before .header-of .ensures) in
+      let q = ap (λ (h : Header). h .rv + h .rh) (c .before .before .before .before .before .before .before .before .before .before .before .header-of .ensures) in
       absurd (omega (arith, checks-fit _ (A .formed)));
 }
 
@@ -68,7 +68,7 @@ returns-7 c =
     let m = mul-le-mul (c .before .before .before .before .before .before .before .before .before .before .if2 .left) (c .before .before .before .before .before .before .before .before .if3 .left) in
     record {
       most = omega (arith, c .row-bytes .ensures);
-      right = λ A. c .row-bytes .ensures ∙ ap (λ (h : Header). rowBytes (h .n1 * h .n2 - (h .rv + h .rh))) (c .before .before .before .before .before .before .before .before .before .before .before .before .read .ensures);
+      right = λ A. c .row-bytes .ensures ∙ ap (λ (h : Header). rowBytes (h .n1 * h .n2 - (h .rv + h .rh))) (c .before .before .before .before .before .before .before .before .before .before .before .before .header-of .ensures);
     }
 
 pub data-bytes-spec : {M : Type 1} → statement M
@@ -76,7 +76,7 @@ data-bytes-spec =
     tie.close
     (tie.spec
     returns
-    read-requires
+    header-of-requires
     returns-2
     returns-3
     returns-4

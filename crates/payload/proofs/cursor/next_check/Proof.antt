@@ -18,21 +18,24 @@ mul-result c = let m = cells-most _ (c .before .before .before .before .pre .0 .
 returns : tie.Need-returns
 returns c = sym (next-past _ _ (omega arith))
 
-check-row-requires : tie.Need-check-row-requires
-check-row-requires c κs = search needs
+check-cell-requires : tie.Need-check-cell-requires
+check-cell-requires c κs = search needs
 
 mul-result-2 : tie.Need-mul-result-2
-mul-result-2 c = let m = pair-most _ (c .before .before .before .before .before .pre .0 .small) _ (c .before .check-row .ensures .below) in omega arith
-
-check-column-requires : tie.Need-check-column-requires
-check-column-requires c κs = search needs
+mul-result-2 c =
+    let w = c .before .before in
+    let m = pair-most _ (w .before .before .before .before .pre .0 .small) _ (w .check-cell .ensures .row-below) in
+    omega arith
 
 add-result : tie.Need-add-result
-add-result c = let m = pair-most _ (c .before .before .before .before .before .before .pre .0 .small) _ (c .before .before .check-row .ensures .below) in omega arith
+add-result c =
+    let w = c .before .before .before in
+    let m = pair-most _ (w .before .before .before .before .pre .0 .small) _ (w .check-cell .ensures .row-below) in
+    omega (arith, w .check-cell .ensures)
 
 returns-2 : tie.Need-returns-2
 unfolding checkNumber cellNumber
-returns-2 c = rw (c .before .before .check-row .ensures .value, c .check-column .ensures .value) (sym (next-here _ _ (omega arith)))
+returns-2 c = rw (c .before .before .before .check-cell .ensures .value) (sym (next-here _ _ (omega arith)))
 
 pub next-check-spec : {M : Type 1} → statement M
 next-check-spec =
@@ -41,8 +44,7 @@ next-check-spec =
     add-if1
     mul-result
     returns
-    check-row-requires
+    check-cell-requires
     mul-result-2
-    check-column-requires
     add-result
     returns-2)

@@ -1,18 +1,18 @@
-use borrow.Author.Needs.{needs}
+-- `plan::entry::column_entry` meets its contract: a view is made and passed on to `view::column_entry`. Assumes nothing.
+use base.Logic.{id⊢}
+use Rattle.plan.proofs.Walk.Fetches.{word}
+use Rattle.plan.proofs.Walk.PutTogether.{served}
+use Rattle.plan.proofs.view.column_entry as fetch
+use Rattle.plan.proofs.view.column_entry.Met as fetch-thm
+use Rattle.plan.proofs.view.column_entry.Symbol as fetch-def
+use Rattle.plan.proofs.entry.column_entry as own
+use Rattle.plan.proofs.entry.column_entry.Key as own-key
 use Rattle.plan.proofs.entry.column_entry.Statement.{statement}
-use Rattle.plan.proofs.entry.column_entry.Tie as tie
-
-mul-u32-at : tie.Need-mul-u32-at
-mul-u32-at c = search needs
-
-add-u32-at : tie.Need-add-u32-at
-add-u32-at c = search needs
-
-u32-at-requires : tie.Need-u32-at-requires
-u32-at-requires c κs = search needs
-
-returns : tie.Need-returns
-returns c = rw (c .before .before .before .pre .0 .columns-at) at (c .u32-at .ensures)
+use Rattle.plan.proofs.entry.column_entry.Code as code
 
 pub column-entry-spec : {M : Type 1} → statement M
-column-entry-spec = tie.close (tie.spec mul-u32-at add-u32-at u32-at-requires returns)
+unfolding code.routine
+column-entry-spec 𝓤 H 𝓜 𝓖 𝓡 =
+    served 𝓤 H 𝓜 𝓖 𝓡 word (own.clauses 𝓤 H (𝓖 .A) (𝓜 .mem) (𝓡 .run)) (fetch.clauses 𝓤 H (𝓖 .A) (𝓜 .mem) (𝓡 .run))
+    record { ghost = λ κs s h k g. tt; asks = λ κs s h k g. id⊢ 𝓤 _; tells = λ κs s h k g r e e′. id⊢ 𝓤 _ }
+    fetch-def.name code.env own-key.name (code.unfolded 𝓤 H 𝓜 𝓡) fetch-def.routine code.calls-plan·view·column-entry (fetch-thm.met 𝓤 H 𝓜 𝓖 𝓡)

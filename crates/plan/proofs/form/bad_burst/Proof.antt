@@ -1,3 +1,4 @@
+-- `plan::form::bad_burst` meets its contract, by computing. Assumes nothing.
 use mathlib.Core.Path.{refl}
 use Rattle.plan.specs.Form.{badBurst}
 use Rattle.plan.proofs.form.bad_burst.Statement.{statement}

@@ -1,3 +1,4 @@
+-- `plan::form::bad_sheet` meets its contract, by computing. Assumes nothing.
 use mathlib.Core.Path.{refl}
 use Rattle.plan.specs.Form.{badSheet}
 use Rattle.plan.proofs.form.bad_sheet.Statement.{statement}

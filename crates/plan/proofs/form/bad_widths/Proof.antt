@@ -1,3 +1,4 @@
+-- `plan::form::bad_widths` meets its contract, by computing. Assumes nothing.
 use mathlib.Core.Path.{refl}
 use Rattle.plan.specs.Form.{badWidths}
 use Rattle.plan.proofs.form.bad_widths.Statement.{statement}

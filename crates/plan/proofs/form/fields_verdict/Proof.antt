@@ -1,3 +1,4 @@
+-- `plan::form::fields_verdict` meets its contract: where checks 2 to 4 pass the header is small, and check 5 can be computed. Assumes nothing.
 use mathlib.Core.Path.{_≡_, refl, sym, _∙_}
 use mathlib.Core.Bool.{true, false}
 use Rattle.plan.specs.Verdict.{_orElse_}

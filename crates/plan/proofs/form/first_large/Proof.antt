@@ -1,25 +1,25 @@
 -- `plan::form::first_large` meets its contract. The invariant: no entry before k is too large, and limit is 2 to the power width.
 -- Assumes nothing.
 use mathlib.Core.Path.{_≡_, _∙_}
-use mathlib.Core.Bool.{Bool, true, false}
-use Prim.Native.Nat.{ℕ, _+_, _-_, _*_, _^_, _≤_, _<_}
+use mathlib.Core.Bool.{false}
+use Prim.Native.Nat.{ℕ, _-_, _^_, _≤_, _<_}
 use native.Mathlib.Nat.{one-mul}
 use native.Mathlib.Omega.{arith}
 use borrow.Author.Count.{below-none, below-more}
 use borrow.Author.Tests.{le-leb, lt-leb}
 use lib.Dec.{leb}
 use lib.Pow.{shl-exact}
-use Rattle.layout.specs.Number.{u32At}
 use Rattle.finite.proofs.Search.{search-finds, search-ends}
+use Rattle.plan.specs.Table.{entryOf}
 use Rattle.plan.specs.Form.{firstLarge}
 use Rattle.plan.proofs.form.first_large.Statement.{statement}
 use Rattle.plan.proofs.form.first_large.Tie as tie
 
 abbrev Inv-loop : tie.InvT-loop
-Inv-loop plan from count width limit k₀ k = (k ≤ count) × (limit ≡ 2 ^ width) × ((j : ℕ) → j < k → leb (2 ^ width) (u32At plan (from + 4 * j)) ≡ false)
+Inv-loop plan h t count width limit k₀ k = (k ≤ count) × (limit ≡ 2 ^ width) × ((j : ℕ) → j < k → leb (2 ^ width) (entryOf plan h t j) ≡ false)
 
 abbrev μ-loop : tie.MeasureT-loop
-μ-loop plan from count width limit k₀ k = count - k
+μ-loop plan h t count width limit k₀ k = count - k
 
 shl-limit : tie.Need-shl-limit Inv-loop μ-loop
 shl-limit c = omega arith
@@ -27,20 +27,14 @@ shl-limit c = omega arith
 loop-holds : tie.Need-loop-holds Inv-loop μ-loop
 loop-holds c = (omega arith, shl-exact 1 (c .before .args .width) 64 (omega arith) (omega arith) ∙ one-mul (2 ^ c .before .args .width), below-none _)
 
-mul-u32-at : tie.Need-mul-u32-at Inv-loop μ-loop
-mul-u32-at c = omega arith
-
-add-u32-at : tie.Need-add-u32-at Inv-loop μ-loop
-add-u32-at c = omega arith
-
-u32-at-requires : tie.Need-u32-at-requires Inv-loop μ-loop
-u32-at-requires c κs = omega arith
+entry-requires : tie.Need-entry-requires Inv-loop μ-loop
+entry-requires c κs = (c .before .before .before .pre .0, omega arith)
 
 returns : tie.Need-returns Inv-loop μ-loop
 unfolding firstLarge
 returns c =
     let a = c .before .before .before .before .before .args in
-    let l : 2 ^ a .width ≤ u32At (a .plan .now) (a .from + 4 * c .before .before .before .loop .k) = omega arith in
+    let l : 2 ^ a .width ≤ entryOf (a .plan .now) (a .h) (a .t) (c .before .before .before .loop .k) = omega arith in
     search-finds (a .count) _ (c .before .before .before .loop .k) (omega arith) (c .before .before .before .loop .inv .2) (le-leb _ _ l)
 
 add-k : tie.Need-add-k Inv-loop μ-loop
@@ -52,7 +46,7 @@ loop-less c = omega arith
 loop-again : tie.Need-loop-again Inv-loop μ-loop
 loop-again c =
     let a = c .before .before .before .before .before .args in
-    let l : u32At (a .plan .now) (a .from + 4 * c .before .before .before .loop .k) < 2 ^ a .width = omega arith in
+    let l : entryOf (a .plan .now) (a .h) (a .t) (c .before .before .before .loop .k) < 2 ^ a .width = omega arith in
     (omega arith, c .before .before .before .loop .inv .1, below-more _ _ (c .before .before .before .loop .inv .2) (lt-leb _ _ l))
 
 returns-2 : tie.Need-returns-2 Inv-loop μ-loop
@@ -68,9 +62,7 @@ first-large-spec =
     μ-loop
     shl-limit
     loop-holds
-    mul-u32-at
-    add-u32-at
-    u32-at-requires
+    entry-requires
     returns
     add-k
     loop-less

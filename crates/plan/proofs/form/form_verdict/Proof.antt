@@ -1,5 +1,5 @@
 -- `plan::form::form_verdict` meets its contract: each stage is asked for only where those before it gave 0. Assumes nothing.
-use mathlib.Core.Path.{_≡_, refl, sym, ap, _∙_}
+use mathlib.Core.Path.{_≡_, sym, ap, _∙_}
 use native.Mathlib.Omega.{arith}
 use Rattle.plan.specs.declared.verdict.Verdict.{Verdict}
 use Rattle.plan.specs.Verdict.{_orElse_}
@@ -23,7 +23,7 @@ ready c = framed (c .before .before .before .before .args .plan .now) (accepts c
 entries : (c : tie.After-entries-verdict)
     → c .entries-verdict .result ≡ entriesVerdict (codeOf (c .before .before .before .before .before .before .args .plan .now))
 unfolding codeOf
-entries c = c .entries-verdict .ensures ∙ rw (c .before .read .ensures)
+entries c = c .entries-verdict .ensures ∙ rw (c .before .header-of .ensures)
 
 header-verdict-requires : tie.Need-header-verdict-requires
 header-verdict-requires c κs = search needs
@@ -33,11 +33,11 @@ unfolding formVerdict
 returns c =
     rw (← (c .before .before .header-verdict .ensures)) (sym (else-first _ _ (c .if1 .taken)))
 
-read-requires : tie.Need-read-requires
-read-requires c κs = let f = ready c in omega arith
+header-of-requires : tie.Need-header-of-requires
+header-of-requires c κs = let f = ready c in omega arith
 
 entries-verdict-requires : tie.Need-entries-verdict-requires
-entries-verdict-requires c κs = rw (c .read .ensures) (ready (c .before))
+entries-verdict-requires c κs = rw (c .header-of .ensures) (ready (c .before))
 
 returns-2 : tie.Need-returns-2
 unfolding formVerdict
@@ -47,7 +47,7 @@ returns-2 c =
     rw (h, ← entries (c .before .before)) (sym (else-first _ _ (c .if2 .taken)))
 
 list-verdict-requires : tie.Need-list-verdict-requires
-list-verdict-requires c κs = rw (c .before .before .before .read .ensures) (ready (c .before .before .before .before))
+list-verdict-requires c κs = rw (c .before .before .before .header-of .ensures) (ready (c .before .before .before .before))
 
 returns-3 : tie.Need-returns-3
 unfolding formVerdict codeOf
@@ -56,7 +56,7 @@ returns-3 c =
     let h = else-second (headerVerdict s) (entriesVerdict (codeOf s) orElse listVerdict (codeOf s)) (accepts (c .before .before .before .before .before)) in
     let e : entriesVerdict (codeOf s) .number ≡ 0 =
     ap (λ (v : Verdict). v .number) (sym (entries (c .before .before .before))) ∙ c .before .if2 .left in
-    let t : c .list-verdict .result ≡ listVerdict (codeOf s) = c .list-verdict .ensures ∙ rw (c .before .before .before .before .read .ensures) in
+    let t : c .list-verdict .result ≡ listVerdict (codeOf s) = c .list-verdict .ensures ∙ rw (c .before .before .before .before .header-of .ensures) in
     t ∙ sym (h ∙ else-second (entriesVerdict (codeOf s)) (listVerdict (codeOf s)) e)
 
 pub form-verdict-spec : {M : Type 1} → statement M
@@ -65,7 +65,7 @@ form-verdict-spec =
     (tie.spec
     header-verdict-requires
     returns
-    read-requires
+    header-of-requires
     entries-verdict-requires
     returns-2
     list-verdict-requires

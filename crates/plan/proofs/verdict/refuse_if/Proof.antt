@@ -1,3 +1,4 @@
+-- `plan::verdict::refuse_if` meets its contract: the two branches are those of `verdictIf`. Assumes nothing.
 use borrow.Author.Needs.{needs}
 use Rattle.plan.proofs.verdict.refuse_if.Statement.{statement}
 use Rattle.plan.proofs.verdict.refuse_if.Tie as tie

@@ -38,14 +38,14 @@ returns c =
     rw (c .refused-as .ensures, e)
     (read-refuses (a .plan .now) (a .sheet .now) (a .bits .now) (λ z. c .before .if1 .taken (ap (λ (v : Verdict). v .number) e ∙ z)))
 
-read-requires : tie.Need-read-requires
-read-requires c κs = let f = ready c .accepted .framed in omega arith
+header-of-requires : tie.Need-header-of-requires
+header-of-requires c κs = let f = ready c .accepted .framed in omega arith
 
 mend-sheet-requires : tie.Need-mend-sheet-requires
 unfolding codeOf
 mend-sheet-requires c κs =
     let R = ready (c .before .before .before) in
-    rw (c .before .before .read .ensures) (usable _ _ refl (R .accepted), (R .form, R .bits-size))
+    rw (c .before .before .header-of .ensures) (usable _ _ refl (R .accepted), (R .form, R .bits-size))
 
 same-length-3 : tie.Need-same-length-3
 same-length-3 c = search needs
@@ -58,7 +58,7 @@ unfolding codeOf
 returns-2 c =
     let a = c .before .before .before .before .before .before .before .before .before .before .before .before .before .before .before .before .args in
     c .before .before .before .before .mend-sheet .ensures
-    ∙ ap (λ (h : Header). mendOutcome (codeWith (a .plan .now) h) (a .sheet .now) (a .bits .now)) (c .before .before .before .before .before .before .before .read .ensures)
+    ∙ ap (λ (h : Header). mendOutcome (codeWith (a .plan .now) h) (a .sheet .now) (a .bits .now)) (c .before .before .before .before .before .before .before .header-of .ensures)
     ∙ read-mends (a .plan .now) (a .sheet .now) (a .bits .now) (passes (c .before .before .before .before .before .before .before .before))
 
 pub read-spec : {M : Type 1} → statement M
@@ -70,7 +70,7 @@ read-spec =
     same-length
     same-length-2
     returns
-    read-requires
+    header-of-requires
     mend-sheet-requires
     same-length-3
     same-length-4

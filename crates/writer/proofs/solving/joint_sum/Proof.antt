@@ -1,5 +1,5 @@
 -- `writer::solving::joint_sum` meets its contract: the two sums stand in digits of their own. Assumes nothing.
-use mathlib.Core.Path.{_≡_, refl, sym, ap, _∙_}
+use mathlib.Core.Path.{_≡_}
 use Prim.Native.Nat.{_+_, _*_, _%_, _^_, _≤_}
 use native.Mathlib.Omega.{arith}
 use Rattle.layout.specs.Cells.{cellOf}
@@ -11,37 +11,34 @@ use borrow.Author.Needs.{needs}
 use Rattle.writer.proofs.solving.joint_sum.Statement.{statement}
 use Rattle.writer.proofs.solving.joint_sum.Tie as tie
 
-mul-unpack : tie.Need-mul-unpack
-mul-unpack c = search needs
-
-unpack-requires : tie.Need-unpack-requires
-unpack-requires c κs = search needs
+column-table-requires : tie.Need-column-table-requires
+column-table-requires c κs = search needs
 
 slice-aggregate-sums : tie.Need-slice-aggregate-sums
 slice-aggregate-sums c = search needs
 
 sums-requires : tie.Need-sums-requires
 sums-requires c κs =
-    let p = c .before .before .before .before .before .pre in
-    (p .0, (rw (p .0 .columns-at) at (c .before .unpack .ensures), p .1 .1))
+    let p = c .before .before .before .before .pre in
+    (p .0, (c .before .column-table .ensures, p .1 .1))
 
 shl-result : tie.Need-shl-result
 shl-result c = search needs
 
 -- what the shift gives, that rv + rh digits fit a word, and the joint sum
-exact : (c : tie.After-sums) → 1 * 2 ^ c .before .before .before .before .before .before .args .h .rv % 18446744073709551616 ≡ 2 ^ c .before .before .before .before .before .before .args .h .rv
-exact c = shift-exact (c .before .before .before .before .before .before .args .h .rv) (c .before .before .before .before .before .before .pre .0 .small .rv-most)
+exact : (c : tie.After-sums) → 1 * 2 ^ c .before .before .before .before .before .args .h .rv % 18446744073709551616 ≡ 2 ^ c .before .before .before .before .before .args .h .rv
+exact c = shift-exact (c .before .before .before .before .before .args .h .rv) (c .before .before .before .before .before .pre .0 .small .rv-most)
 
-word : (c : tie.After-sums) → 2 ^ (c .before .before .before .before .before .before .args .h .rv + c .before .before .before .before .before .before .args .h .rh) ≤ 2 ^ 64
+word : (c : tie.After-sums) → 2 ^ (c .before .before .before .before .before .args .h .rv + c .before .before .before .before .before .args .h .rh) ≤ 2 ^ 64
 word c =
-    let p = c .before .before .before .before .before .before .pre .0 .small in
-    joint-word (c .before .before .before .before .before .before .args .h .rv) (c .before .before .before .before .before .before .args .h .rh) (p .rv-most) (p .rh-most)
+    let p = c .before .before .before .before .before .pre .0 .small in
+    joint-word (c .before .before .before .before .before .args .h .rv) (c .before .before .before .before .before .args .h .rh) (p .rv-most) (p .rh-most)
 
 whole : (c : tie.After-sums)
-    → JointSum (codeWith (c .before .before .before .before .before .before .args .plan .now) (c .before .before .before .before .before .before .args .h)) (cellOf (c .before .before .before .before .before .before .args .h .n2) (c .before .before .before .before .before .before .args .sheet .now))
-    (c .sums .result .row + 2 ^ c .before .before .before .before .before .before .args .h .rv * c .sums .result .column)
+    → JointSum (codeWith (c .before .before .before .before .before .args .plan .now) (c .before .before .before .before .before .args .h)) (cellOf (c .before .before .before .before .before .args .h .n2) (c .before .before .before .before .before .args .sheet .now))
+    (c .sums .result .row + 2 ^ c .before .before .before .before .before .args .h .rv * c .sums .result .column)
 whole c =
-    let a = c .before .before .before .before .before .before in
+    let a = c .before .before .before .before .before in
     joint-value (codeWith (a .args .plan .now) (a .args .h)) (a .pre .1 .0) (cellOf (a .args .h .n2) (a .args .sheet .now)) _ _ (c .sums .ensures .row) (c .sums .ensures .column)
 
 mul-result : tie.Need-mul-result
@@ -57,8 +54,7 @@ pub joint-sum-spec : {M : Type 1} → statement M
 joint-sum-spec =
     tie.close
     (tie.spec
-    mul-unpack
-    unpack-requires
+    column-table-requires
     slice-aggregate-sums
     sums-requires
     shl-result

@@ -30,14 +30,14 @@ returns c =
     ap (λ (v : Verdict). outcome v (c .before .before .before .before .before .before .before .args .sheet .now)) e
     ∙ sym (write-refused _ _ _ (λ z. c .if1 .taken (ap (λ (v : Verdict). v .number) e ∙ z)))
 
-read-requires : tie.Need-read-requires
-read-requires c κs = let w = ready c in omega (arith, w .accepted .framed .long)
+header-of-requires : tie.Need-header-of-requires
+header-of-requires c κs = let w = ready c in omega (arith, w .accepted .framed .long)
 
 write-sheet-requires : tie.Need-write-sheet-requires
 unfolding codeOf
 write-sheet-requires c κs =
     let w = ready (c .before .before) in
-    rw (c .before .read .ensures) (w .accepted .framed, (w .accepted .formed, (w .accepted .conditions, (w .bits-size, w .sheet-size))))
+    rw (c .before .header-of .ensures) (w .accepted .framed, (w .accepted .formed, (w .accepted .conditions, (w .bits-size, w .sheet-size))))
 
 same-length-2 : tie.Need-same-length-2
 same-length-2 c = search needs
@@ -45,7 +45,7 @@ same-length-2 c = search needs
 -- the sheet after, by the plan's bytes and the data alone
 whole : (c : tie.After-write-sheet) → c .write-sheet .last .1 .1 .1 .0 ≡ writtenBytes (c .before .before .before .before .before .before .before .before .before .before .args .plan .now) (c .before .before .before .before .before .before .before .before .before .before .args .bits .now)
 unfolding writtenBytes codeOf
-whole c = rw (c .before .before .read .ensures) at (c .write-sheet .ensures)
+whole c = rw (c .before .before .header-of .ensures) at (c .write-sheet .ensures)
 
 returns-2 : tie.Need-returns-2
 returns-2 c =
@@ -60,7 +60,7 @@ write-spec =
     write-checks-requires
     same-length
     returns
-    read-requires
+    header-of-requires
     write-sheet-requires
     same-length-2
     returns-2)
