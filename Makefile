@@ -1,7 +1,8 @@
 # make run      a blotted sheet through the program sheetread (INPUT=file: another input)
 # make test     the whole gate, set-up included
 # make lib      libsheet.a, for C          make install PREFIX=/usr/local DESTDIR=
-# make bench    times beside plain Rust    make host    the example host in C        make clean
+# make bench    times beside plain Rust (BEFORE=commit: and beside that commit's library, in the same run)
+# make host     the example host in C      make clean
 CARGO_TARGET_DIR ?= $(CURDIR)/build/cargo
 export CARGO_TARGET_DIR
 PREFIX ?= /usr/local
@@ -44,7 +45,9 @@ install: lib
 	sed 's|@PREFIX@|$(PREFIX)|' include/sheet.pc.in > $(DESTDIR)$(PREFIX)/lib/pkgconfig/sheet.pc
 
 bench: lib
-	cd tests && SHEET_LIB_DIR=$(CURDIR)/target/staticlib cargo run --release --offline --quiet --features calls --bin bench
+	$(if $(BEFORE),tests/before $(BEFORE))
+	cd tests && SHEET_LIB_DIR=$(CURDIR)/target/staticlib SHEET_BEFORE_DIR=$(CURDIR)/build/before \
+	    cargo run --release --offline --quiet $(if $(BEFORE),--features before) --bin bench
 
 clean:
 	rm -rf target build

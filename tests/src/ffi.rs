@@ -1,59 +1,79 @@
 //! The calls of libsheet.a: bare, and on guarded buffers.
 
-#[cfg(feature = "calls")]
 use crate::answer::Answer;
 use crate::rng::Rng;
 
-extern "C" {
-    fn sheet_plan_test(plan: *const u8, plan_len: usize) -> u64;
+type PlanTest = unsafe extern "C" fn(*const u8, usize) -> u64;
+type Write = unsafe extern "C" fn(*const u8, usize, *const u8, usize, *mut u8, usize) -> u64;
+type Read = unsafe extern "C" fn(*const u8, usize, *mut u8, usize, *mut u8, usize) -> u64;
+
+/// The three calls of an archive, bare.
+#[derive(Clone, Copy)]
+pub struct Archive {
+    plan_test: PlanTest,
+    write: Write,
+    read: Read,
 }
 
-#[cfg(feature = "calls")]
+/// Names the three symbols of an archive.
+macro_rules! archive {
+    ($(#[$about:meta])* $name:ident: $plan_test:ident, $write:ident, $read:ident) => {
+        extern "C" {
+            fn $plan_test(plan: *const u8, plan_len: usize) -> u64;
+            fn $write(
+                plan: *const u8, plan_len: usize,
+                data: *const u8, data_len: usize,
+                sheet: *mut u8, sheet_len: usize,
+            ) -> u64;
+            fn $read(
+                plan: *const u8, plan_len: usize,
+                sheet: *mut u8, sheet_len: usize,
+                data: *mut u8, data_len: usize,
+            ) -> u64;
+        }
+        $(#[$about])*
+        pub const $name: Archive = Archive { plan_test: $plan_test, write: $write, read: $read };
+    };
+}
+
+archive! {
+    /// The archive under test.
+    SHEET: sheet_plan_test, sheet_write, sheet_read
+}
+
+#[cfg(feature = "before")]
+archive! {
+    /// The archive of an earlier commit, whose symbols have been given other names.
+    BEFORE: before_plan_test, before_write, before_read
+}
+
 #[rustfmt::skip]
-extern "C" {
-    fn sheet_write(
-        plan: *const u8, plan_len: usize,
-        data: *const u8, data_len: usize,
-        sheet: *mut u8, sheet_len: usize,
-    ) -> u64;
-    fn sheet_read(
-        plan: *const u8, plan_len: usize,
-        sheet: *mut u8, sheet_len: usize,
-        data: *mut u8, data_len: usize,
-    ) -> u64;
-}
-
-/// The bare call.
-pub fn plan_test(plan: &[u8]) -> u64 {
-    // SAFETY: a slice is readable for its length.
-    unsafe { sheet_plan_test(plan.as_ptr(), plan.len()) }
-}
-
-/// The bare call.
-#[cfg(feature = "calls")]
-#[rustfmt::skip]
-pub fn write(plan: &[u8], data: &[u8], sheet: &mut [u8]) -> u64 {
-    // SAFETY: slices are readable, and the mutable one writable and apart from the others.
-    unsafe {
-        sheet_write(
-            plan.as_ptr(), plan.len(),
-            data.as_ptr(), data.len(),
-            sheet.as_mut_ptr(), sheet.len(),
-        )
+impl Archive {
+    pub fn plan_test(&self, plan: &[u8]) -> u64 {
+        // SAFETY: a slice is readable for its length.
+        unsafe { (self.plan_test)(plan.as_ptr(), plan.len()) }
     }
-}
 
-/// The bare call.
-#[cfg(feature = "calls")]
-#[rustfmt::skip]
-pub fn read(plan: &[u8], sheet: &mut [u8], data: &mut [u8]) -> u64 {
-    // SAFETY: as for `write`.
-    unsafe {
-        sheet_read(
-            plan.as_ptr(), plan.len(),
-            sheet.as_mut_ptr(), sheet.len(),
-            data.as_mut_ptr(), data.len(),
-        )
+    pub fn write(&self, plan: &[u8], data: &[u8], sheet: &mut [u8]) -> u64 {
+        // SAFETY: slices are readable, and the mutable one writable and apart from the others.
+        unsafe {
+            (self.write)(
+                plan.as_ptr(), plan.len(),
+                data.as_ptr(), data.len(),
+                sheet.as_mut_ptr(), sheet.len(),
+            )
+        }
+    }
+
+    pub fn read(&self, plan: &[u8], sheet: &mut [u8], data: &mut [u8]) -> u64 {
+        // SAFETY: as for `write`.
+        unsafe {
+            (self.read)(
+                plan.as_ptr(), plan.len(),
+                sheet.as_mut_ptr(), sheet.len(),
+                data.as_mut_ptr(), data.len(),
+            )
+        }
     }
 }
 
@@ -71,29 +91,27 @@ impl Library {
 
     pub fn plan_test(&mut self, plan: &[u8]) -> u64 {
         let plan = Guarded::new("plan", plan, &mut self.rng);
-        let answer = plan_test(plan.content());
+        let answer = SHEET.plan_test(plan.content());
         plan.assert_unchanged();
         answer
     }
 
-    #[cfg(feature = "calls")]
     pub fn write(&mut self, plan: &[u8], data: &[u8], sheet: &mut [u8]) -> u64 {
         let plan = Guarded::new("plan", plan, &mut self.rng);
         let data = Guarded::new("data", data, &mut self.rng);
         let mut target = Guarded::new("sheet", sheet, &mut self.rng);
-        let answer = write(plan.content(), data.content(), target.content_mut());
+        let answer = SHEET.write(plan.content(), data.content(), target.content_mut());
         plan.assert_unchanged();
         data.assert_unchanged();
         target.hand_back(answer, sheet);
         answer
     }
 
-    #[cfg(feature = "calls")]
     pub fn read(&mut self, plan: &[u8], sheet: &mut [u8], data: &mut [u8]) -> u64 {
         let plan = Guarded::new("plan", plan, &mut self.rng);
         let mut scan = Guarded::new("sheet", sheet, &mut self.rng);
         let mut target = Guarded::new("data", data, &mut self.rng);
-        let answer = read(plan.content(), scan.content_mut(), target.content_mut());
+        let answer = SHEET.read(plan.content(), scan.content_mut(), target.content_mut());
         plan.assert_unchanged();
         scan.hand_back(answer, sheet);
         target.hand_back(answer, data);
@@ -126,10 +144,7 @@ impl Guarded {
     fn assert_unchanged(&self) {
         assert!(self.all == self.before, "the {} or a byte around it was changed", self.name);
     }
-}
 
-#[cfg(feature = "calls")]
-impl Guarded {
     fn content_mut(&mut self) -> &mut [u8] {
         &mut self.all[self.start..self.end]
     }

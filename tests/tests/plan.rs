@@ -5,7 +5,7 @@ use std::thread;
 use sheet_tests::answer::Answer;
 use sheet_tests::cases::{plan_cases, plan_s, plan_t};
 use sheet_tests::damage::damaged;
-use sheet_tests::ffi::{self, Library};
+use sheet_tests::ffi::{Library, SHEET};
 use sheet_tests::make::{
     accepted, burst_sizes, largest_4x4, powers_1x1, powers_3x3, wide_3x3, CellOrder,
 };
@@ -242,7 +242,7 @@ fn small_stack() {
     {
         let bytes = plan.encode();
         let thread = thread::Builder::new().stack_size(64 * 1024);
-        let call = thread.spawn(move || ffi::plan_test(&bytes)).expect("a thread can be started");
+        let call = thread.spawn(move || SHEET.plan_test(&bytes)).expect("a thread can be started");
         assert_eq!(call.join().expect("the call returns"), 0);
     }
 }

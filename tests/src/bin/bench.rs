@@ -1,21 +1,26 @@
-//! `cargo run --release --bin bench`: the library's speed beside Rust, on the same inputs in the
-//! same run. Times are of this thread's own work, not of its waiting for a processor, and the
+//! `cargo run --release --bin bench`: the library's speed beside Rust, and with the feature `before`
+//! beside the library of an earlier commit, on the same inputs in the same run. Times are of this thread's own work, not of its waiting for a processor, and the
 //! contenders take turns, so that a busy machine slows all of them alike.
 
+use std::cell::RefCell;
 use std::hint::black_box;
 use std::time::Duration;
 
-use sheet_tests::ffi;
-use sheet_tests::make::{powers_3x3, CellOrder};
+use sheet_tests::ffi::{Archive, SHEET};
+use sheet_tests::make::{powers_1x1, powers_3x3, CellOrder};
+use sheet_tests::model::write_sheet;
+use sheet_tests::plan::Plan;
 use sheet_tests::rng::Rng;
-use sheet_tests::yardstick::{best_plan_test, plain_plan_test};
+use sheet_tests::scans::{burst, random_data, turned};
+use sheet_tests::yardstick::{best_plan_test, plain_plan_test, read_accepted, write_accepted};
 
 const SIZES: [(usize, usize); 3] = [(64, 64), (256, 256), (512, 698)];
 
 fn main() {
     plan_test();
-    #[cfg(feature = "calls")]
-    calls::write_and_read();
+    write_and_read();
+    #[cfg(feature = "before")]
+    before::beside();
 }
 
 fn plan_test() {
@@ -24,7 +29,7 @@ fn plan_test() {
     for (n1, n2) in SIZES {
         let plan = powers_3x3(n1, n2, CellOrder::Scattered, &mut Rng::new(1)).encode();
         let contenders: [&dyn Fn(); 3] = [
-            &|| assert_eq!(ffi::plan_test(black_box(&plan)), 0),
+            &|| assert_eq!(SHEET.plan_test(black_box(&plan)), 0),
             &|| assert_eq!(plain_plan_test(black_box(&plan)), 0),
             &|| assert_eq!(best_plan_test(black_box(&plan)), 0),
         ];
@@ -68,6 +73,11 @@ fn thread_time() -> Duration {
     Duration::new(time.seconds as u64, time.nanoseconds as u32)
 }
 
+/// The least time in microseconds.
+fn least(times: Vec<Duration>) -> f64 {
+    micros(times.into_iter().min().expect("25 times"))
+}
+
 /// The median in microseconds.
 fn median(mut times: Vec<Duration>) -> f64 {
     times.sort();
@@ -78,67 +88,140 @@ fn micros(time: Duration) -> f64 {
     time.as_secs_f64() * 1e6
 }
 
-#[cfg(feature = "calls")]
-mod calls {
-    use std::cell::RefCell;
-
-    use sheet_tests::make::powers_1x1;
-    use sheet_tests::model::write_sheet;
-    use sheet_tests::plan::Plan;
-    use sheet_tests::scans::{burst, random_data, turned};
-    use sheet_tests::yardstick::{read_accepted, write_accepted};
-
-    use super::*;
-
-    /// Both calls test the plan first. What they cost beyond it is the least time of the call less
-    /// the least time of the plan test. The difference can drown in the spread of a long plan test
-    /// on a busy machine; with bursts of one cell the plan test is short.
-    pub fn write_and_read() {
-        println!();
-        println!("Write and read beyond the plan test; least times in microseconds");
-        println!("     size   burst  plan test   call   library  plain Rust  library/plain");
-        let mut rng = Rng::new(2);
-        let mut plans =
-            SIZES.map(|(n1, n2)| powers_3x3(n1, n2, CellOrder::Scattered, &mut rng)).to_vec();
-        plans.push(powers_1x1(CellOrder::Scattered, &mut rng));
-        for plan in plans {
-            compare(&plan, &random_data(&plan, &mut rng));
-        }
+/// Both calls test the plan first. What they cost beyond it is the least time of the call less the
+/// least time of the plan test. The difference can drown in the spread of a long plan test on a busy
+/// machine; with bursts of one cell the plan test is short.
+fn write_and_read() {
+    println!();
+    println!("Write and read beyond the plan test; least times in microseconds");
+    println!("     size   burst  plan test   call   library  plain Rust  library/plain");
+    let mut rng = Rng::new(2);
+    for plan in plans(&mut rng) {
+        compare(&Job::new(&plan, &mut rng));
     }
+}
 
-    fn compare(plan: &Plan, data: &[u8]) {
-        let bytes = plan.encode();
-        let written = write_sheet(plan, data);
-        // A full burst in the last corner, where a search in sheet order comes last.
+/// One plan of each size with bursts of 3 x 3 cells, and one with bursts of one cell.
+fn plans(rng: &mut Rng) -> Vec<Plan> {
+    let mut plans = SIZES.map(|(n1, n2)| powers_3x3(n1, n2, CellOrder::Scattered, rng)).to_vec();
+    plans.push(powers_1x1(CellOrder::Scattered, rng));
+    plans
+}
+
+/// What is timed: a plan, data, the sheet written from them, and a scan of it with a full burst in
+/// the last corner, where a search in sheet order comes last.
+struct Job<'a> {
+    plan: &'a Plan,
+    bytes: Vec<u8>,
+    data: Vec<u8>,
+    written: Vec<u8>,
+    scan: Vec<u8>,
+    sheet: RefCell<Vec<u8>>,
+    into: RefCell<Vec<u8>>,
+}
+
+impl Job<'_> {
+    fn new<'a>(plan: &'a Plan, rng: &mut Rng) -> Job<'a> {
+        let data = random_data(plan, rng);
+        let written = write_sheet(plan, &data);
         let cells = burst(plan, plan.n1 - plan.b1, plan.n2 - plan.b2, u32::MAX);
         let scan = turned(plan, &written, &cells);
         let sheet = RefCell::new(scan.clone());
         let into = RefCell::new(vec![0; data.len()]);
-        let restore = || sheet.borrow_mut().copy_from_slice(&scan);
-        let contenders: [&dyn Fn(); 5] = [
-            &|| assert_eq!(ffi::plan_test(black_box(&bytes)), 0),
-            &|| assert_eq!(ffi::write(black_box(&bytes), data, &mut sheet.borrow_mut()), 0),
-            &|| {
-                restore();
-                let answer = ffi::read(&bytes, &mut sheet.borrow_mut(), &mut into.borrow_mut());
-                assert_eq!(answer & 31, 0);
-            },
-            &|| write_accepted(black_box(plan), data, &mut sheet.borrow_mut()),
-            &|| {
-                restore();
-                let answer = read_accepted(plan, &mut sheet.borrow_mut(), &mut into.borrow_mut());
-                assert_eq!(answer.number, 0);
-            },
-        ];
-        let least = |times: Vec<Duration>| micros(times.into_iter().min().expect("25 times"));
-        let [test, write, read, plain_write, plain_read] = in_turns(contenders).map(least);
-        assert_eq!((&*sheet.borrow(), &*into.borrow()), (&written, &data.to_vec()));
-        let Plan { n1, n2, b1, b2, .. } = plan;
-        for (call, library, plain) in
-            [("write", write - test, plain_write), ("read", read - test, plain_read)]
-        {
-            print!("{n1:4} x {n2:<4}  {b1} x {b2} {test:10.0} {call:>6} ");
-            println!("{library:9.0} {plain:11.0} {:14.2}", library / plain);
+        Job { plan, bytes: plan.encode(), data, written, scan, sheet, into }
+    }
+
+    fn restore(&self) {
+        self.sheet.borrow_mut().copy_from_slice(&self.scan);
+    }
+
+    /// The last contender has left the written sheet and its data.
+    fn assert_done(&self) {
+        assert_eq!((&*self.sheet.borrow(), &*self.into.borrow()), (&self.written, &self.data));
+    }
+
+    fn print_size(&self) {
+        let Plan { n1, n2, b1, b2, .. } = self.plan;
+        print!("{n1:4} x {n2:<4}  {b1} x {b2} ");
+    }
+
+    fn test(&self, archive: Archive) {
+        assert_eq!(archive.plan_test(black_box(&self.bytes)), 0);
+    }
+
+    fn write(&self, archive: Archive) {
+        let mut sheet = self.sheet.borrow_mut();
+        assert_eq!(archive.write(black_box(&self.bytes), &self.data, &mut sheet), 0);
+    }
+
+    fn read(&self, archive: Archive) {
+        self.restore();
+        let (mut sheet, mut into) = (self.sheet.borrow_mut(), self.into.borrow_mut());
+        assert_eq!(archive.read(black_box(&self.bytes), &mut sheet, &mut into) & 31, 0);
+    }
+
+    fn plain_write(&self) {
+        write_accepted(black_box(self.plan), &self.data, &mut self.sheet.borrow_mut());
+    }
+
+    fn plain_read(&self) {
+        self.restore();
+        let (mut sheet, mut into) = (self.sheet.borrow_mut(), self.into.borrow_mut());
+        assert_eq!(read_accepted(black_box(self.plan), &mut sheet, &mut into).number, 0);
+    }
+}
+
+fn compare(job: &Job) {
+    let contenders: [&dyn Fn(); 5] = [
+        &|| job.test(SHEET),
+        &|| job.write(SHEET),
+        &|| job.read(SHEET),
+        &|| job.plain_write(),
+        &|| job.plain_read(),
+    ];
+    let [test, write, read, plain_write, plain_read] = in_turns(contenders).map(least);
+    job.assert_done();
+    for (call, library, plain) in
+        [("write", write - test, plain_write), ("read", read - test, plain_read)]
+    {
+        job.print_size();
+        println!("{test:10.0} {call:>6} {library:9.0} {plain:11.0} {:14.2}", library / plain);
+    }
+}
+
+#[cfg(feature = "before")]
+mod before {
+    use sheet_tests::ffi::BEFORE;
+
+    use super::*;
+
+    /// Whole calls, of the archive of an earlier commit and of this one, in turns.
+    pub fn beside() {
+        println!();
+        println!("Beside the archive of the earlier commit; least times in microseconds");
+        println!("     size   burst       call    before   library  library/before");
+        let mut rng = Rng::new(3);
+        for plan in plans(&mut rng) {
+            let job = Job::new(&plan, &mut rng);
+            let contenders: [&dyn Fn(); 6] = [
+                &|| job.test(BEFORE),
+                &|| job.test(SHEET),
+                &|| job.write(BEFORE),
+                &|| job.write(SHEET),
+                &|| job.read(BEFORE),
+                &|| job.read(SHEET),
+            ];
+            let [test, test_now, write, write_now, read, read_now] =
+                in_turns(contenders).map(least);
+            job.assert_done();
+            for (call, before, now) in [
+                ("plan test", test, test_now),
+                ("write", write, write_now),
+                ("read", read, read_now),
+            ] {
+                job.print_size();
+                println!("{call:>10} {before:9.0} {now:9.0} {:15.2}", now / before);
+            }
         }
     }
 }
