@@ -8,29 +8,27 @@
 --
 -- Assumes nothing.
 use mathlib.Core.Path.{_≡_, refl, sym, ap, _∙_}
-use mathlib.Core.Bool.{Bool, true, false}
+use mathlib.Core.Bool.{Bool}
 use mathlib.Core.List.{List}
 use Prim.Native.Nat.{ℕ, suc, _+_, _-_, _*_, _≤_, _<_}
 use native.Mathlib.Omega.{arith}
-use lib.Dec.{eqb}
 use borrow.Author.Tests.{eq-eqb, eqb-true}
 use Rattle.finite.specs.Search.{least}
-use Rattle.finite.proofs.Search.{least-le, least-first, least-none}
-use Rattle.gf2.specs.Independence.{Independent, free, spanned}
+use Rattle.finite.proofs.Search.{least-first, least-none}
+use Rattle.gf2.specs.Independence.{Independent, spanned}
 use Rattle.gf2.proofs.Independence.{free-independent, independent-free}
 use Rattle.gf2.proofs.Vectors.{free-least}
 use Rattle.boxcode.specs.Code.{Code, Formed, checkJoint}
 use Rattle.boxcode.specs.Condition.{everyone, rowMember, columnMember, columnDifference, Conditions, rowPairFree, columnPairFree}
 use Rattle.plan.specs.declared.verdict.Verdict.{Verdict}
-use Rattle.plan.specs.Verdict.{accepted, refusal, _orElse_}
-use Rattle.plan.specs.Header.{Framed, headerOf}
+use Rattle.plan.specs.Verdict.{accepted, _orElse_}
 use Rattle.plan.specs.Bytes.{codeOf}
 use Rattle.plan.specs.Form.{formVerdict}
 use Rattle.plan.proofs.Sequence.{else-zero, else-second}
 use Rattle.plan.proofs.Forming.{at-zero, zero-at, formed, form-passes}
 use Rattle.accept.specs.declared.pairs.Pair.{Pair}
 use Rattle.accept.specs.declared.pairs.Pair.the-variants.{Failing, Clear}
-use Rattle.accept.specs.Pairs.{firstFailing, pairVerdict}
+use Rattle.accept.specs.Pairs.{pairVerdict}
 use Rattle.accept.specs.Verdict.{rowsVerdict, columnsVerdict, checksVerdict, conditionsVerdict, planVerdict, Accepted}
 use Rattle.accept.proofs.Pairing.{clear-all, all-clear}
 

@@ -1,8 +1,7 @@
 // Check 10: the joint entries of the check cells are independent.
 ghost use mathlib.Core.Path.{_≡_};
-ghost use Prim.Native.Nat.{ℕ, _+_, _*_, _≤_, _<_};
-ghost use lib.ListN.{length, take};
-ghost use Rattle.boxcode.specs.Code.{Formed, checkJoint};
+ghost use Prim.Native.Nat.{_+_, _*_, _<_};
+ghost use Rattle.boxcode.specs.Code.{Formed};
 ghost use Rattle.plan.specs.Header.{Framed};
 ghost use Rattle.plan.specs.Bytes.{codeWith};
 ghost use Rattle.accept.specs.Tables.{Joint, Joints};

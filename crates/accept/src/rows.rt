@@ -1,6 +1,6 @@
 // Check 8: the V entries of any two windows are independent.
 ghost use mathlib.Core.Path.{_≡_};
-ghost use Prim.Native.Nat.{ℕ, _+_, _-_, _*_, _≤_, _<_, max};
+ghost use Prim.Native.Nat.{ℕ, _+_, _-_, _*_, _≤_, _<_};
 ghost use lib.ListN.{length};
 ghost use Rattle.plan.specs.Header.{Framed};
 ghost use Rattle.plan.specs.Bytes.{codeWith};
@@ -12,19 +12,10 @@ use crate::pairs::pair_verdict;
 use gf2::Kept;
 use gf2::keep;
 use gf2::sweep;
+use layout::compare::larger;
 use plan::entry::row_entry;
 use plan::header::Header;
 use plan::verdict::Verdict;
-
-// The larger of two numbers.
-fn larger(a: usize, b: usize) -> usize
-    ensures { λ r. ⌜ r ≡ max a b ⌝ }
-{
-    if a < b {
-        return b;
-    }
-    a
-}
 
 // The first entries of the row table, as many as there is room for.
 fn fill(plan: &[u8], h: Header, table: &mut [u64])

@@ -5,7 +5,7 @@
 --
 -- Assumes nothing.
 use mathlib.Core.Path.{_≡_}
-use Prim.Native.Nat.{ℕ, _^_, _<_}
+use Prim.Native.Nat.{_^_, _<_}
 use native.Mathlib.Omega.{arith}
 use Rattle.answer.specs.Answer.{Fields, InRange, packed, numberIn, pIn, qIn, cellsIn, topIn, leftIn, heightIn, widthIn}
 

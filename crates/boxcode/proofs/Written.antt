@@ -15,9 +15,8 @@
 use mathlib.Core.Path.{_≡_, refl, sym, ap, ap₂, _∙_}
 use mathlib.Core.Bool.{Bool, true, false, xor}
 use Prim.Native.Nat.{ℕ, _+_, _*_, _/_, _%_, _^_, _≤_, _<_}
-use native.Mathlib.Nat.{div-lt-iff-lt-mul, mod-lt, zero-div}
+use native.Mathlib.Nat.{div-lt-iff-lt-mul, mod-lt}
 use native.Mathlib.Omega.{arith}
-use lib.Dec.{eqb}
 use Rattle.gf2.specs.Xor.{_⊕_, pick}
 use Rattle.gf2.specs.Sum.{chosenSum}
 use Rattle.gf2.specs.Independence.{Independent}
@@ -33,7 +32,7 @@ use Rattle.boxcode.specs.Check.{Bits, checkNumber, checkAt, dataSize, fi
 use Rattle.finite.proofs.Truth as truth
 use Rattle.finite.proofs.Truth.{both-equal, equal-both, not-true, xor-equal}
 use Rattle.finite.proofs.Search.{least-found, least-most}
-use Rattle.finite.proofs.Digits.{number-below, bit-number}
+use Rattle.finite.proofs.Digits.{bit-none, number-below, bit-number}
 use Rattle.boxcode.proofs.Image.{sum-image, unpicked}
 use Rattle.boxcode.proofs.Syndrome.{weight-flip, weight-flat, weight-below, joint-below, joint-belongs, belongs-joint}
 use Rattle.boxcode.proofs.Check.{check-row, check-column, number-cell, check-listed, check-found, rank-below}
@@ -58,10 +57,6 @@ belongs-true c s t =
 pub true-belongs : (c : Code) (s : Cells) → Belongs c s → belongs c s ≡ true
 unfolding belongs
 true-belongs c s b = equal-both (rowSyndrome c s) (columnSyndrome c s) 0 0 (b .row-zero) (b .column-zero)
-
-bit-none : (k : ℕ) → bit 0 k ≡ false
-unfolding bit
-bit-none k = ap (λ (x : ℕ). eqb (x % 2) 1) (zero-div (2 ^ k))
 
 module _ (c : Code) (F : Formed c) where
   -- of a set that has check cells only

@@ -5,7 +5,7 @@
 --   columnDifference  the exclusive-or of the two H entries of that member
 --   Conditions        the conditions on courses, needles and check cells, as 01 words them
 --   rowPairFree, columnPairFree, checksFree   the same for a pair and for the check cells, as computed
-use Prim.Native.Nat.{ℕ, suc, _+_, _*_, _/_, _%_, _≤_, _<_}
+use Prim.Native.Nat.{ℕ, _+_, _*_, _/_, _%_, _≤_, _<_}
 use mathlib.Core.Bool.{Bool, true, _||_, not}
 use lib.Dec.{eqb}
 use Rattle.gf2.specs.Xor.{_⊕_}

@@ -5,7 +5,6 @@
 --   write-joined, read-joined   the checks before writing and before reading, as the shared ones and check 13
 --   cells-most, size-most, bytes-most   a sheet has at most 512 × 698 cells, and so few data bits; 88 bytes a row
 --   length-right, right-length, unused-right, right-unused   each check passes exactly where its buffer is right
---   row-sheet                the bytes of one row
 --   Lengths                  what holds where checks 1 to 12 pass
 --   length-zero, lengths-pass   checks 1 to 12 pass exactly there
 --   write-zero, writes-pass  the checks before writing pass exactly where Writes holds
@@ -15,19 +14,19 @@
 use mathlib.Core.Path.{_≡_, refl, sym, ap, _∙_}
 use mathlib.Core.Bool.{Bool, true, false, not}
 use mathlib.Core.List.{List}
-use Prim.Native.Nat.{ℕ, suc, _+_, _-_, _*_, _≤_, _<_}
-use native.Mathlib.Nat.{mul-le-mul, one-mul}
+use Prim.Native.Nat.{ℕ, suc, _*_, _≤_}
+use native.Mathlib.Nat.{mul-le-mul}
 use native.Mathlib.Omega.{arith}
 use borrow.Author.Tests.{eq-eqb, eqb-true, le-ltb, ltb-false, not-false}
 use lib.Dec.{eqb, ltb}
 use lib.ListN.{length}
 use Rattle.finite.proofs.Search.{least-le}
 use Rattle.layout.specs.Cells.{rowBytes, sheetBytes, firstUnused, RightForm}
-use Rattle.layout.proofs.Form.{form-unused, unused-form}
-use Rattle.boxcode.specs.Code.{Code, Formed}
+use Rattle.layout.proofs.Form.{form-unused, unused-form, row-sheet}
+use Rattle.boxcode.specs.Code.{Formed}
 use Rattle.boxcode.specs.Check.{dataSize}
 use Rattle.plan.specs.declared.verdict.Verdict.{Verdict}
-use Rattle.plan.specs.Verdict.{accepted, refusal, verdictIf, _orElse_}
+use Rattle.plan.specs.Verdict.{accepted, _orElse_}
 use Rattle.plan.specs.Bytes.{codeOf}
 use Rattle.plan.proofs.Sequence.{else-first, else-second, else-zero, if-zero}
 use Rattle.accept.specs.Verdict.{planVerdict, Accepted}
@@ -91,10 +90,6 @@ unfolding unusedVerdict
 right-unused n1 n2 s f = rw (form-unused n1 n2 s f, le-ltb (sheetBytes n1 n2) (sheetBytes n1 n2) (omega arith))
 
 -- ---- the checks of a call
-
-pub row-sheet : (k : ℕ) → sheetBytes 1 k ≡ rowBytes k
-unfolding sheetBytes
-row-sheet k = one-mul (rowBytes k)
 
 pub record Lengths (plan sheet bits : List ℕ) : Type 0 where
   pub accepted : Accepted plan

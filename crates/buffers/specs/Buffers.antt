@@ -16,7 +16,6 @@ use mathlib.Core.List.{List}
 use lib.Dec.{eqb}
 use lib.ListN.{length}
 use Rattle.layout.specs.Cells.{rowBytes, sheetBytes, firstUnused, RightForm}
-use Rattle.boxcode.specs.Code.{Code}
 use Rattle.boxcode.specs.Check.{dataSize}
 use Rattle.plan.specs.declared.verdict.Verdict.{Verdict}
 use Rattle.plan.specs.Verdict.{refusal, verdictIf, _orElse_}

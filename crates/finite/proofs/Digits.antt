@@ -1,5 +1,7 @@
 -- A number by its binary digits, and the places of remainders:
 --
+--   bit-zero, bit-suc    the lowest digit, and the digits above it
+--   bit-none, bit-power  the digits of 0 and of a power of two
 --   numberOf n p     the number below 2 to the power n whose digit k is p k
 --   number-below, bit-number, bits-equal    its laws: below the bound, the digits, and a number is known by its digits
 --   place-from, place-to, place-mod, place-is   place b a r stands among the b numbers from a on and has remainder r,
@@ -9,22 +11,52 @@
 use mathlib.Core.Path.{_≡_, refl, sym, ap, ap₂, _∙_}
 use mathlib.Core.Bool.{Bool, true, false, cond}
 use Prim.Native.Nat.{ℕ, zero, suc, _+_, _-_, _*_, _/_, _%_, _^_, _≤_, _<_}
-use native.Mathlib.Nat.{mod-lt, mod-eq-of-lt, add-mod-mod, add-mul-mod-self-right, div-add-mod', mul-le-mul-right, suc-mul, pow-succ', div-div-eq-div-mul, zero-lt-suc, div-one}
-use native.Mathlib.Decide.{decLt}
+use native.Mathlib.Nat.{mod-lt, mod-eq-of-lt, add-mod-mod, add-mul-mod-self-right, div-add-mod', mul-le-mul-right, suc-mul, pow-succ', div-div-eq-div-mul, zero-lt-suc, zero-div, div-one}
+use native.Mathlib.Decide.{ℕ-discrete, decLt}
 use native.Mathlib.Omega.{arith}
+use borrow.Author.Tests.{eq-eqb, ne-eqb}
 use lib.Dec.{eqb}
 use Rattle.finite.specs.Search.{bit, numberOf, place}
 use Rattle.finite.proofs.Truth.{clash}
 
 -- ---- digits
 
-bit-zero : (x : ℕ) → bit x 0 ≡ eqb (x % 2) 1
+pub bit-zero : (x : ℕ) → bit x 0 ≡ eqb (x % 2) 1
 unfolding bit
 bit-zero x = ap (λ (y : ℕ). eqb (y % 2) 1) (div-one x)
 
-bit-suc : (x k : ℕ) → bit x (suc k) ≡ bit (x / 2) k
+pub bit-suc : (x k : ℕ) → bit x (suc k) ≡ bit (x / 2) k
 unfolding bit
 bit-suc x k = ap (λ (y : ℕ). eqb (y % 2) 1) (ap (λ (z : ℕ). x / z) (pow-succ' 2 k) ∙ sym (div-div-eq-div-mul x 2 (2 ^ k)))
+
+pub bit-none : (k : ℕ) → bit 0 k ≡ false
+unfolding bit
+bit-none k = ap (λ (x : ℕ). eqb (x % 2) 1) (zero-div (2 ^ k))
+
+bit-same : (a : ℕ) → bit (2 ^ a) a ≡ true
+bit-same zero = bit-zero 1
+bit-same (suc a) =
+    bit-suc (2 ^ suc a) a
+    ∙ ap (λ (x : ℕ). bit x a) (let e : 2 ^ suc a ≡ 2 * 2 ^ a = pow-succ' 2 a in let r : 2 ^ suc a / 2 ≡ 2 ^ a = omega arith in r)
+    ∙ bit-same a
+
+bit-other : (a k : ℕ) → (a ≡ k → ⊥) → bit (2 ^ a) k ≡ false
+bit-other zero zero h = absurd (h refl)
+bit-other zero (suc k) h = bit-suc 1 k ∙ bit-none k
+bit-other (suc a) zero h =
+    bit-zero (2 ^ suc a)
+    ∙ ap (λ (x : ℕ). eqb x 1) (let e : 2 ^ suc a ≡ 2 * 2 ^ a = pow-succ' 2 a in let r : 2 ^ suc a % 2 ≡ 0 = omega arith in r)
+bit-other (suc a) (suc k) h =
+    bit-suc (2 ^ suc a) k
+    ∙ ap (λ (x : ℕ). bit x k) (let e : 2 ^ suc a ≡ 2 * 2 ^ a = pow-succ' 2 a in let r : 2 ^ suc a / 2 ≡ 2 ^ a = omega arith in r)
+    ∙ bit-other a k (λ e. h (ap suc e))
+
+pub bit-power : (a k : ℕ) → bit (2 ^ a) k ≡ eqb a k
+bit-power a k = go (ℕ-discrete a k)
+  where
+    go : Dec (a ≡ k) → bit (2 ^ a) k ≡ eqb a k
+    go (yes e) = ap (λ (x : ℕ). bit (2 ^ a) x) (sym e) ∙ bit-same a ∙ sym (eq-eqb a k e)
+    go (no h) = bit-other a k h ∙ sym (ne-eqb a k h)
 
 pub number-below : (n : ℕ) (p : ℕ → Bool) → numberOf n p < 2 ^ n
 unfolding numberOf

@@ -10,7 +10,7 @@
 --   pastOf n p    one more than the last k below n at which p holds, or 0 where there is none
 --   place b a r   the number among the b numbers from a on whose remainder modulo b is r (r below b)
 use Prim.Native.Nat.{ℕ, zero, suc, _+_, _-_, _*_, _/_, _%_, _^_}
-use mathlib.Core.Bool.{Bool, true, false, cond, _&&_, _||_}
+use mathlib.Core.Bool.{Bool, false, cond, _&&_, _||_}
 use lib.Dec.{leb, ltb, eqb}
 
 unfoldable pub bit : ℕ → ℕ → Bool

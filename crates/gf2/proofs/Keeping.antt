@@ -5,19 +5,18 @@
 --   kept-sweeps        the words of `keep` take off what the members that were taken span
 --   kept-free          at most 64 members are free exactly where all are taken
 --   kept-append        one list after another: keep the first, and ask of the second as the words leave it
---   part-map           a part of a table whose elements were all swept
 --
 -- Assumes nothing.
 use mathlib.Core.Path.{_≡_, refl, sym, ap, _∙_}
 use mathlib.Core.Bool.{Bool, true, false, _&&_, cond}
 use mathlib.Core.List.{List, [], _∷_, _++_, reverseAux, map, reverseAux-append}
-use Prim.Native.Nat.{ℕ, zero, suc, _+_, _-_, _≤_, _<_}
+use Prim.Native.Nat.{ℕ, zero, suc, _+_, _≤_, _<_}
 use native.Mathlib.Omega.{arith}
 use borrow.Author.Tests.{eqb-true, eq-eqb, ne-eqb}
 use lib.Dec.{eqb}
 use lib.ListN.{length, getD, take, drop, length-take, drop-of-length-le}
 use lib.Seq.{take-suc, take-all, take-length, drop-cons, getD-take}
-use Rattle.gf2.specs.Vectors.{takenFrom, freeFrom, part}
+use Rattle.gf2.specs.Vectors.{takenFrom, freeFrom}
 use Rattle.gf2.specs.Swept.{swept, kept, SweepOf, KeptOf}
 use Rattle.gf2.specs.declared.Kept.{Kept}
 use Rattle.gf2.proofs.Vectors.{taken-none, taken-more, free-append}
@@ -100,6 +99,3 @@ map-drop : (g : ℕ → ℕ) (n : ℕ) (t : List ℕ) → map g (drop n t) ≡ d
 map-drop g zero t = refl
 map-drop g (suc n) [] = refl
 map-drop g (suc n) (x ∷ t) = map-drop g n t
-
-pub part-map : (g : ℕ → ℕ) (a b : ℕ) (t : List ℕ) → map g (part a b t) ≡ part a b (map g t)
-part-map g a b t = map-take g (b - a) (drop a t) ∙ ap (take (b - a)) (map-drop g a t)

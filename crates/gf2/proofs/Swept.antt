@@ -27,13 +27,12 @@ use lib.Pow.{pow-pos, shr-mono}
 use lib.Seq.{drop-cons}
 use Rattle.gf2.specs.Xor.{_⊕_, pick}
 use Rattle.gf2.specs.Vectors.{spans, takenFrom, freeFrom}
-use Rattle.gf2.specs.Solver.{digit}
+use Rattle.finite.specs.Search.{bit}
 use Rattle.gf2.specs.Swept.{swept, kept, SweepOf}
-use Rattle.gf2.proofs.Xor.{xor-swap, xor-zero-right, pick-differ}
+use Rattle.gf2.proofs.Xor.{xor-swap, xor-zero-right, pick-differ, bit-xor}
 use Rattle.gf2.proofs.Independence.{pick-true, pick-false}
 use Rattle.gf2.proofs.Vectors.{taken-none, taken-more}
 use Rattle.gf2.proofs.Triangle.{pow-double}
-use Rattle.gf2.proofs.Combination.{digit-xor}
 
 below-power : (n : ℕ) → n < 2 ^ n
 below-power zero = omega arith
@@ -52,8 +51,8 @@ high j w v l u =
     bits.xor-shr v w j ∙ ap (λ (x : ℕ). bitXor (v / 2 ^ j) x) one ∙ turned (v / 2 ^ j)
 
 -- taking w off makes v smaller exactly where v has w's leading digit
-min-digit : (j w v : ℕ) → 2 ^ j ≤ w → w < 2 ^ suc j → min v (v ⊕ w) ≡ v ⊕ pick (digit j v) w
-unfolding digit
+min-digit : (j w v : ℕ) → 2 ^ j ≤ w → w < 2 ^ suc j → min v (v ⊕ w) ≡ v ⊕ pick (bit v j) w
+unfolding bit
 min-digit j w v l u = go (v / 2 ^ j % 2) refl (mod-lt (v / 2 ^ j) (zero-lt-suc 1)) (high j w v l u)
   where
     go : (t : ℕ) → v / 2 ^ j % 2 ≡ t → t < 2 → (v ⊕ w) / 2 ^ j ≡ v / 2 ^ j / 2 * 2 + differ t 1 → min v (v ⊕ w) ≡ v ⊕ pick (eqb t 1) w
@@ -82,8 +81,8 @@ min-xor w x y = ⊎-elim (λ e. rw e none) some (eq-zero-or-pos w)
     some p =
         let t = leading-top w w p (below-power w) in
         min-digit (t .0) w (x ⊕ y) (t .2) (t .3)
-        ∙ ap (λ (b : ℕ). (x ⊕ y) ⊕ b) (ap (λ (b : Bool). pick b w) (digit-xor (t .0) x y) ∙ pick-differ (digit (t .0) x) (digit (t .0) y) w)
-        ∙ xor-swap x y (pick (digit (t .0) x) w) (pick (digit (t .0) y) w)
+        ∙ ap (λ (b : ℕ). (x ⊕ y) ⊕ b) (ap (λ (b : Bool). pick b w) (bit-xor x y (t .0)) ∙ pick-differ (bit x (t .0)) (bit y (t .0)) w)
+        ∙ xor-swap x y (pick (bit x (t .0)) w) (pick (bit y (t .0)) w)
         ∙ sym (ap₂ _⊕_ (min-digit (t .0) w x (t .2) (t .3)) (min-digit (t .0) w y (t .2) (t .3)))
 
 pub swept-xor : (ws : List ℕ) (x y : ℕ) → swept ws (x ⊕ y) ≡ swept ws x ⊕ swept ws y

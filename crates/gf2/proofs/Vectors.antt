@@ -19,7 +19,7 @@ use mathlib.Core.List.{List, [], _∷_, _++_, reverseAux, append-nil, append-ass
 use Prim.Native.Nat.{ℕ, zero, suc, _+_, _-_, _≤_, _<_, max}
 use native.Mathlib.Nat.{lt-suc-self, add-zero, add-suc}
 use native.Mathlib.Omega.{arith}
-use borrow.Author.Tests.{le-leb, lt-leb, lt-ltb, le-ltb}
+use borrow.Author.Tests.{lt-leb, le-ltb}
 use lib.Dec.{eqb, leb, eqb·suc-suc, eqb·zero-suc}
 use lib.ListN.{length, take, drop, getD, length-append, length-drop}
 use lib.Seq.{take-suc, getD-drop}
@@ -28,6 +28,7 @@ use Rattle.gf2.specs.Independence.{spanned, free}
 use Rattle.finite.specs.Search.{least, within}
 use Rattle.gf2.specs.Vectors.{spans, takenFrom, freeFrom, listed, part}
 use Rattle.finite.proofs.Search.{least-last}
+use Rattle.finite.proofs.Truth.{in-within}
 
 pub free-none : (vs : List ℕ) → freeFrom vs [] ≡ true
 unfolding freeFrom takenFrom
@@ -197,10 +198,6 @@ pub run-after : (a m k : ℕ) → a + m ≤ k → within a m k ≡ false
 unfolding within
 run-after a m k l = rw (le-ltb k (a + m) l) (and-false (leb a k))
 
-pub run-within : (a m k : ℕ) → a ≤ k → k < a + m → within a m k ≡ true
-unfolding within
-run-within a m k l u = rw (le-leb a k l, lt-ltb k (a + m) u)
-
 pub free-two-runs :
     (n a a′ m : ℕ) (member : ℕ → Bool) (f : ℕ → ℕ) (t : List ℕ) → a ≤ a′ → a′ + m ≤ n → n ≤ length t
     → ((k : ℕ) → k < n → member k ≡ (within a m k || within a′ m k)) → ((k : ℕ) → k < n → f k ≡ getD t k 0)
@@ -210,12 +207,12 @@ free-two-runs n a a′ m member f t l u w h g =
     ∙ ap (freeFrom [])
     (listed-skip (a′ + m) n member f u (λ k p q. h k q ∙ ap₂ _||_ (run-after a m k (omega arith)) (run-after a′ m k p))
     ∙ listed-run (max (a + m) a′) (a′ + m) member f t (omega arith) (omega arith)
-    (λ k p q. h k (omega arith) ∙ ap₂ _||_ (run-after a m k (omega arith)) (run-within a′ m k (omega arith) q)) (λ k p q. g k (omega arith))
+    (λ k p q. h k (omega arith) ∙ ap₂ _||_ (run-after a m k (omega arith)) (in-within a′ m k (omega arith) q)) (λ k p q. g k (omega arith))
     ∙ ap (λ (s : List ℕ). s ++ part (max (a + m) a′) (a′ + m) t)
     (listed-skip (a + m) (max (a + m) a′) member f (omega arith)
     (λ k p q. h k (omega arith) ∙ ap₂ _||_ (run-after a m k p) (run-before a′ m k (omega arith)))
     ∙ listed-run a (a + m) member f t (omega arith) (omega arith)
-    (λ k p q. h k (omega arith) ∙ ap (λ (b : Bool). b || within a′ m k) (run-within a m k p q)) (λ k p q. g k (omega arith))
+    (λ k p q. h k (omega arith) ∙ ap (λ (b : Bool). b || within a′ m k) (in-within a m k p q)) (λ k p q. g k (omega arith))
     ∙ ap (λ (s : List ℕ). s ++ part a (a + m) t)
     (listed-skip 0 a member f (omega arith) (λ k p q. h k (omega arith) ∙ ap₂ _||_ (run-before a m k q) (run-before a′ m k (omega arith)))
     ∙ listed-none member f)))

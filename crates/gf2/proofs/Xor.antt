@@ -1,7 +1,7 @@
 -- Laws of exclusive-or and of `pick`. They are named by their shape:
 --
 --   xor-is, xor-comm, xor-assoc, xor-self, xor-zero-left, xor-zero-right, xor-swap, xor-cancel, xor-back, xor-again,
---   xor-below (a bound by a power of two), parity, pick-xor, pick-zero, pick-below, pick-differ
+--   xor-below (a bound by a power of two), parity, pick-xor, pick-zero, pick-below, pick-differ, bit-xor
 --
 -- Assumes nothing.
 use mathlib.Core.Path.{_≡_, refl, sym, ap, ap₂, _∙_}
@@ -12,7 +12,9 @@ use native.Mathlib.Omega.{arith}
 use lib.Bits as bits
 use lib.Bits.{bitXor, differ}
 use lib.Arith.{bin-ind}
+use lib.Dec.{eqb}
 use lib.Pow.{pow-pos}
+use Rattle.finite.specs.Search.{bit}
 use Rattle.gf2.specs.Xor.{_⊕_, pick}
 
 -- what the code's `^` says
@@ -121,3 +123,21 @@ pub pick-below : (k : ℕ) (t : Bool) (a : ℕ) → a < 2 ^ k → pick t a < 2 ^
 unfolding pick
 pick-below k true a h = h
 pick-below k false a h = pow-pos k
+
+-- ---- digits
+
+odd-differ : (p q : ℕ) → p < 2 → q < 2 → eqb (differ p q) 1 ≡ xor (eqb p 1) (eqb q 1)
+unfolding xor
+odd-differ zero zero hp hq = refl
+odd-differ zero (suc zero) hp hq = refl
+odd-differ zero (suc (suc q)) hp hq = absurd (omega arith)
+odd-differ (suc zero) zero hp hq = refl
+odd-differ (suc zero) (suc zero) hp hq = refl
+odd-differ (suc zero) (suc (suc q)) hp hq = absurd (omega arith)
+odd-differ (suc (suc p)) q hp hq = absurd (omega arith)
+
+pub bit-xor : (a b k : ℕ) → bit (a ⊕ b) k ≡ xor (bit a k) (bit b k)
+unfolding bit _⊕_
+bit-xor a b k =
+    ap (λ (n : ℕ). eqb n 1) (ap (λ (n : ℕ). n % 2) (bits.xor-shr a b k) ∙ parity (a / 2 ^ k) (b / 2 ^ k))
+    ∙ odd-differ (a / 2 ^ k % 2) (b / 2 ^ k % 2) (mod-lt (a / 2 ^ k) (zero-lt-suc 1)) (mod-lt (b / 2 ^ k) (zero-lt-suc 1))

@@ -1,6 +1,5 @@
 -- Which of the vectors sum to a target.
 --
---   digit i y             digit i of y is set
 --   combination vs y      the exclusive-or of those vs whose digit is set in y
 --   solution vs target    the number of the combination that makes the target, or Outside where there is none
 --   combined b c v y      y and the combinations c of the words b that reducing v takes off
@@ -9,25 +8,22 @@
 --                         vector that those before it span, and after 64
 --
 -- The law that joins them, `solver-solves`, is in proofs/Solving.antt.
-use Prim.Native.Nat.{ℕ, zero, suc, _/_, _%_, _^_}
-use mathlib.Core.Bool.{Bool, cond}
+use Prim.Native.Nat.{ℕ, zero, suc, _^_}
+use mathlib.Core.Bool.{cond}
 use mathlib.Core.List.{List, [], _∷_}
 use lib.Dec.{eqb, ltb, leb}
 use lib.ListN.{length, getD, set, replicate}
 use Rattle.gf2.specs.Xor.{_⊕_}
 use Rattle.gf2.specs.Sum.{chosenSum}
-use Rattle.finite.specs.Search.{least}
+use Rattle.finite.specs.Search.{bit, least}
 use Rattle.gf2.specs.Vectors.{spans}
 use Rattle.gf2.specs.Basis.{top, lowered, reduced, inserted}
 use Rattle.gf2.specs.declared.Solver.{Solver}
 use Rattle.gf2.specs.declared.Solution.{Solution}
 use Rattle.gf2.specs.declared.Solution.the-variants.{Combination, Outside}
 
-unfoldable pub digit : ℕ → ℕ → Bool
-digit i y = eqb (y / 2 ^ i % 2) 1
-
 unfoldable pub combination : List ℕ → ℕ → ℕ
-combination vs y = chosenSum (length vs) (λ i. digit i y) (λ i. getD vs i 0)
+combination vs y = chosenSum (length vs) (bit y) (λ i. getD vs i 0)
 
 unfoldable pub solution : List ℕ → ℕ → Solution
 solution vs target = cond (spans vs target) (Combination (least (2 ^ length vs) (λ y. eqb (combination vs y) target))) Outside

@@ -7,7 +7,7 @@
 --   part a b t          the elements of a table at the places from a up to b, b left out, as the code's `&t[a..b]`
 --
 -- The vectors seen so far stand in the list vs with the last in front: after ms they are `reverseAux ms vs`.
-use Prim.Native.Nat.{ℕ, zero, suc, _+_, _-_}
+use Prim.Native.Nat.{ℕ, zero, suc, _-_}
 use mathlib.Core.Bool.{Bool, _||_, cond}
 use mathlib.Core.List.{List, [], _∷_, _++_}
 use lib.Dec.{eqb}

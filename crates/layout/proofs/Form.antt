@@ -6,25 +6,24 @@
 --   bytes-form, bytes-cell     the bytes of cells p are of the right form and have the cells p
 --   bytes-equal, bytes-back    equal cells have equal bytes; bytes of the right form are the bytes of their cells
 --   form-unused, unused-form   the right form is the right size with no unused bit 1
---   bit-none, zeros-form, zeros-cell, zeros-bytes   bytes that are all 0
+--   zeros-form, zeros-cell, zeros-bytes   bytes that are all 0
 --
 -- Assumes nothing.
 use mathlib.Core.Path.{_≡_, refl, sym, ap, ap₂, _∙_}
 use mathlib.Core.Bool.{Bool, false}
 use mathlib.Core.List.{List, [], _∷_, _++_}
 use Prim.Native.Nat.{ℕ, zero, suc, _+_, _*_, _/_, _%_, _^_, _<_}
-use native.Mathlib.Nat.{div-lt-iff-lt-mul, div-add-mod', zero-div, zero-lt-suc}
+use native.Mathlib.Nat.{div-lt-iff-lt-mul, div-add-mod', zero-lt-suc, one-mul}
 use native.Mathlib.Decide.{ℕ-discrete}
 use native.Mathlib.Omega.{arith}
 use borrow.Author.Tests.{leb-false, lt-leb}
-use lib.Dec.{eqb}
 use lib.ListN.{length, getD, replicate, length-append, length-replicate, getD-replicate, List·getD-append}
 use lib.Seq.{ext-getD, getD-at}
 use lib.Arith.{digits-lt, digits-div, digits-mod}
 use lib.Pow.{pow-pos}
 use Rattle.finite.specs.Search.{bit}
 use Rattle.finite.proofs.Search.{least-first, least-none}
-use Rattle.finite.proofs.Digits.{number-below, bit-number, bits-equal}
+use Rattle.finite.proofs.Digits.{bit-none, number-below, bit-number, bits-equal}
 use Rattle.layout.specs.Cells.{rowBytes, sheetBytes, byteOf, cellOf, usedBits, unusedAt, firstUnused, RightForm, tabulate, byteFrom, bytesOf}
 
 -- ---- the byte of a cell
@@ -148,11 +147,11 @@ pub form-unused : (n1 n2 : ℕ) (s : List ℕ) → RightForm n1 n2 s → firstUn
 unfolding firstUnused unusedAt
 form-unused n1 n2 s f = least-none (sheetBytes n1 n2) (unusedAt n2 s) (λ k l. lt-leb (2 ^ usedBits n2 k) (getD s k 0) (f .used k l))
 
--- ---- zeros
+pub row-sheet : (k : ℕ) → sheetBytes 1 k ≡ rowBytes k
+unfolding sheetBytes
+row-sheet k = one-mul (rowBytes k)
 
-pub bit-none : (k : ℕ) → bit 0 k ≡ false
-unfolding bit
-bit-none k = ap (λ (x : ℕ). eqb (x % 2) 1) (zero-div (2 ^ k))
+-- ---- zeros
 
 pub zeros-form : (n1 n2 : ℕ) → RightForm n1 n2 (replicate (sheetBytes n1 n2) 0)
 zeros-form n1 n2 = record {

@@ -1,82 +1,29 @@
 -- One cell turned over:
 --
---   bit-xor, bit-power    the digits of an exclusive-or, and of a power of two
 --   turned-form           the right form is kept
 --   turned-cell           the cells are the old ones, but the one that was turned
 --   turned-bytes          so the bytes of cells p become those of p with the cell turned
+--   turned-if-bytes       the same where the cell is turned only if b holds
 --
 -- Assumes nothing.
 use mathlib.Core.Path.{_≡_, refl, sym, ap, ap₂, _∙_}
 use mathlib.Core.Bool.{Bool, true, false, xor, _&&_}
 use mathlib.Core.List.{List}
-use Prim.Native.Nat.{ℕ, zero, suc, _*_, _/_, _%_, _^_, _<_}
-use native.Mathlib.Nat.{mod-lt, zero-lt-suc, div-one, pow-succ', div-div-eq-div-mul}
+use Prim.Native.Nat.{ℕ, _/_, _%_, _^_, _<_}
 use native.Mathlib.Decide.{ℕ-discrete}
 use native.Mathlib.Omega.{arith}
 use borrow.Author.Tests.{eq-eqb, ne-eqb}
 use lib.Dec.{eqb}
 use lib.ListN.{length, getD, set, length-set}
 use lib.Seq.{getD-set-same, getD-set-other}
-use lib.Bits as bits
 use lib.Pow.{pow-lt}
 use Rattle.finite.specs.Search.{bit}
+use Rattle.finite.proofs.Digits.{bit-power}
 use Rattle.finite.proofs.Truth.{xor-none}
 use Rattle.gf2.specs.Xor.{_⊕_}
-use Rattle.gf2.proofs.Xor.{xor-below}
-use Rattle.layout.specs.Cells.{rowBytes, sheetBytes, byteOf, cellOf, usedBits, RightForm, bytesOf, turned}
-use Rattle.layout.proofs.Form.{bit-none, byte-inside, byte-row, byte-place, byte-digit, bytes-form, bytes-cell, same-bytes}
-
--- ---- digits
-
-low : (a b : ℕ) → a < 2 → b < 2 → eqb (bits.bitXor a b) 1 ≡ xor (eqb a 1) (eqb b 1)
-unfolding xor
-low zero zero la lb = refl
-low zero (suc zero) la lb = refl
-low zero (suc (suc b)) la lb = absurd (omega arith)
-low (suc zero) zero la lb = refl
-low (suc zero) (suc zero) la lb = refl
-low (suc zero) (suc (suc b)) la lb = absurd (omega arith)
-low (suc (suc a)) b la lb = absurd (omega arith)
-
-pub bit-xor : (a b k : ℕ) → bit (a ⊕ b) k ≡ xor (bit a k) (bit b k)
-unfolding bit _⊕_
-bit-xor a b k =
-    ap (λ (x : ℕ). eqb (x % 2) 1) (bits.xor-shr a b k)
-    ∙ ap (λ (x : ℕ). eqb x 1) (bits.xor-mod (a / 2 ^ k) (b / 2 ^ k) 1)
-    ∙ low (a / 2 ^ k % 2) (b / 2 ^ k % 2) (mod-lt (a / 2 ^ k) (zero-lt-suc 1)) (mod-lt (b / 2 ^ k) (zero-lt-suc 1))
-
-bit-zero : (x : ℕ) → bit x 0 ≡ eqb (x % 2) 1
-unfolding bit
-bit-zero x = ap (λ (y : ℕ). eqb (y % 2) 1) (div-one x)
-
-bit-suc : (x k : ℕ) → bit x (suc k) ≡ bit (x / 2) k
-unfolding bit
-bit-suc x k = ap (λ (y : ℕ). eqb (y % 2) 1) (ap (λ (z : ℕ). x / z) (pow-succ' 2 k) ∙ sym (div-div-eq-div-mul x 2 (2 ^ k)))
-
-bit-same : (a : ℕ) → bit (2 ^ a) a ≡ true
-bit-same zero = bit-zero 1
-bit-same (suc a) =
-    bit-suc (2 ^ suc a) a
-    ∙ ap (λ (x : ℕ). bit x a) (let e : 2 ^ suc a ≡ 2 * 2 ^ a = pow-succ' 2 a in let r : 2 ^ suc a / 2 ≡ 2 ^ a = omega arith in r)
-    ∙ bit-same a
-
-bit-other : (a k : ℕ) → (a ≡ k → ⊥) → bit (2 ^ a) k ≡ false
-bit-other zero zero h = absurd (h refl)
-bit-other zero (suc k) h = bit-suc 1 k ∙ bit-none k
-bit-other (suc a) zero h =
-    bit-zero (2 ^ suc a)
-    ∙ ap (λ (x : ℕ). eqb x 1) (let e : 2 ^ suc a ≡ 2 * 2 ^ a = pow-succ' 2 a in let r : 2 ^ suc a % 2 ≡ 0 = omega arith in r)
-bit-other (suc a) (suc k) h =
-    bit-suc (2 ^ suc a) k
-    ∙ ap (λ (x : ℕ). bit x k) (let e : 2 ^ suc a ≡ 2 * 2 ^ a = pow-succ' 2 a in let r : 2 ^ suc a / 2 ≡ 2 ^ a = omega arith in r)
-    ∙ bit-other a k (λ e. h (ap suc e))
-
-pub bit-power : (a k : ℕ) → bit (2 ^ a) k ≡ eqb a k
-bit-power a k = go (ℕ-discrete a k)
-  where
-    go : Dec (a ≡ k) → bit (2 ^ a) k ≡ eqb a k
-    go (yes e) = ap (λ (x : ℕ). bit (2 ^ a) x) (sym e) ∙ bit-same a ∙ sym (eq-eqb a k e)
-    go (no h) = bit-other a k h ∙ sym (ne-eqb a k h)
+use Rattle.gf2.proofs.Xor.{xor-below, bit-xor}
+use Rattle.layout.specs.Cells.{rowBytes, sheetBytes, byteOf, cellOf, usedBits, RightForm, bytesOf, turned, turnedIf}
+use Rattle.layout.proofs.Form.{byte-inside, byte-row, byte-place, byte-digit, bytes-form, bytes-cell, bytes-equal, same-bytes}
 
 -- ---- the cell turned over
 
@@ -146,3 +93,10 @@ turned-bytes n1 n2 p q i j li lj h =
     ∙ ap (λ (t : Bool). xor t (eqb i a && eqb j b)) (bytes-cell n1 n2 p a b la lb)
     ∙ h a b la lb
     ∙ sym (bytes-cell n1 n2 q a b la lb))
+
+-- a cell that is turned over if b holds
+pub turned-if-bytes : (n1 n2 : ℕ) (b : Bool) (p q : ℕ → ℕ → Bool) (i j : ℕ) → (b ≡ true → i < n1) → (b ≡ true → j < n2)
+    → ((x y : ℕ) → x < n1 → y < n2 → xor (p x y) (b && (eqb i x && eqb j y)) ≡ q x y)
+    → turnedIf b n2 (bytesOf n1 n2 p) i j ≡ bytesOf n1 n2 q
+turned-if-bytes n1 n2 true p q i j li lj h = turned-bytes n1 n2 p q i j (li refl) (lj refl) h
+turned-if-bytes n1 n2 false p q i j li lj h = bytes-equal n1 n2 p q (λ x y lx ly. sym (xor-none (p x y)) ∙ h x y lx ly)

@@ -1,3 +1,4 @@
-// What stands in the bytes of a plan and of a sheet: numbers, low byte first, and cells.
+// What stands in the bytes of a plan and of a sheet: numbers, low byte first, and cells; the larger of two numbers.
 pub mod cells;
+pub mod compare;
 pub mod number;

@@ -7,8 +7,7 @@
 --
 -- Assumes nothing.
 use mathlib.Core.Path.{_≡_, refl}
-use mathlib.Core.List.{List, [], _∷_}
-use Prim.Native.Nat.{ℕ}
+use mathlib.Core.List.{[], _∷_}
 use Rattle.line.specs.Text.{digitOf, decimalWithin, decimalBytes, hexBytes, hexText}
 use Rattle.line.specs.Line.{field, dataField, numbers, okLine, noLine}
 

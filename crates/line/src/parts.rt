@@ -1,27 +1,15 @@
 // The plan and the sheet in the bytes that are given, and the size of the data.
 ghost use mathlib.Core.Path.{_≡_};
-ghost use Prim.Native.Nat.{_≤_, min, max};
+ghost use Prim.Native.Nat.{_≤_};
 ghost use lib.ListN.{length};
 ghost use Rattle.line.specs.Text.{Put};
 ghost use Rattle.line.specs.Line.{planSize};
 ghost use Rattle.line.specs.Parts.{DataSize};
 use layout::cells::row_bytes;
+use layout::compare::larger;
+use layout::compare::smaller;
 use layout::number::u16_at;
 use plan::entry::header_of;
-
-// The larger of two numbers.
-fn larger(a: usize, b: usize) -> usize
-    ensures { λ r. ⌜ r ≡ max a b ⌝ }
-{
-    if a < b { b } else { a }
-}
-
-// The smaller of two numbers.
-fn smaller(a: usize, b: usize) -> usize
-    ensures { λ r. ⌜ r ≡ min a b ⌝ }
-{
-    if a < b { a } else { b }
-}
 
 // How many bytes are the plan.
 pub fn plan_size(input: &[u8]) -> usize

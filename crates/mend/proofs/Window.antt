@@ -18,11 +18,11 @@ use lib.ListN.{length, getD, take}
 use lib.Pow.{pow-mono}
 use lib.Seq.{ext-getD, length-take-le, getD-take}
 use Rattle.gf2.specs.Xor.{pick}
-use Rattle.gf2.specs.Sum.{xorSum, chosenSum}
+use Rattle.gf2.specs.Sum.{chosenSum}
 use Rattle.gf2.specs.Independence.{Independent}
 use Rattle.gf2.specs.Vectors.{spans, freeFrom, listed}
 use Rattle.gf2.specs.Basis.{Below}
-use Rattle.gf2.specs.Solver.{digit, combination, solution, solved, solverOf}
+use Rattle.gf2.specs.Solver.{combination, solution, solved, solverOf}
 use Rattle.gf2.specs.declared.Solution.the-variants.{Combination, Outside}
 use Rattle.gf2.proofs.Sum.{sum-equal}
 use Rattle.gf2.proofs.Independence.{chosen-spanned, independent-free}
@@ -137,7 +137,7 @@ module _ (c : Code) (F : Formed c) (i : ℕ) (on : i + c .b1 ≤ c .n1) where
     answer-is = solver-solves (windowEntries c i) few window-below (window-free K) v small
 
     made : (x : ℕ) → windowSum c i (bit x) ≡ combination entries x
-    unfolding windowSum windowEntries entries bit digit
+    unfolding windowSum windowEntries entries
     made x = sym (combination-listed (c .b1 * c .b2) (entryAt c i) x)
 
     spans-chosen : (m : ℕ → Bool) → windowSum c i m ≡ v → spans entries v ≡ true

@@ -18,7 +18,9 @@ use Rattle.finite.proofs.Truth.{Truth, is-true, is-false, true-or-false, clash,
 use Rattle.gf2.specs.Xor.{_⊕_}
 use Rattle.layout.specs.Cells.{cellOf, RightForm, bytesOf, turned}
 use Rattle.layout.proofs.Form.{bytes-cell, bytes-equal, bytes-back}
-use Rattle.layout.proofs.Turned.{bit-xor, bit-power, turned-bytes}
+use Rattle.finite.proofs.Digits.{bit-power}
+use Rattle.gf2.proofs.Xor.{bit-xor}
+use Rattle.layout.proofs.Turned.{turned-bytes}
 use Rattle.boxcode.specs.Code.{Code, Formed, cellNumber}
 use Rattle.boxcode.specs.Check.{Bits, checkNumber, checkAt, checkIndex, dataOrder, dataSize, rank, fill, dataOf}
 use Rattle.boxcode.proofs.Check.{check-listed, check-here}

@@ -16,8 +16,9 @@ use lib.ListN.{replicate}
 use Rattle.finite.specs.Search.{countBelow}
 use Rattle.finite.proofs.Truth.{xor-none, and-left, and-right, not-true}
 use Rattle.layout.specs.Cells.{sheetBytes, cellOf, bytesOf, turnedIf}
-use Rattle.layout.proofs.Form.{bit-none, bytes-equal, zeros-bytes}
-use Rattle.layout.proofs.Turned.{turned-bytes}
+use Rattle.finite.proofs.Digits.{bit-none}
+use Rattle.layout.proofs.Form.{bytes-equal, zeros-bytes}
+use Rattle.layout.proofs.Turned.{turned-if-bytes}
 use Rattle.boxcode.specs.Code.{Code, Formed, cellNumber}
 use Rattle.boxcode.specs.Syndrome.{Cells}
 use Rattle.boxcode.specs.Check.{Bits, checkAt, checkIndex, dataOrder, dataSize, rank, fill, dataOf}
@@ -59,13 +60,6 @@ grow u t dark f e same other = go (ℕ-discrete u t)
         ∙ ap (xor (ltb u (t + 1) && f)) (and-false dark)
         ∙ xor-none (ltb u (t + 1) && f)
 
--- a cell that is turned over if b holds
-turn-if : (n1 n2 : ℕ) (b : Bool) (p q : ℕ → ℕ → Bool) (i j : ℕ) → (b ≡ true → i < n1) → (b ≡ true → j < n2)
-    → ((x y : ℕ) → x < n1 → y < n2 → xor (p x y) (b && (eqb i x && eqb j y)) ≡ q x y)
-    → turnedIf b n2 (bytesOf n1 n2 p) i j ≡ bytesOf n1 n2 q
-turn-if n1 n2 true p q i j li lj h = turned-bytes n1 n2 p q i j (li refl) (lj refl) h
-turn-if n1 n2 false p q i j li lj h = bytes-equal n1 n2 p q (λ x y lx ly. sym (xor-none (p x y)) ∙ h x y lx ly)
-
 -- ---- putting
 
 module _ (c : Code) (x : Bits) where
@@ -89,7 +83,7 @@ module _ (c : Code) (F : Formed c) (r : Cursor) (A : At c r) (l : r .cell < c .n
       ≡ bytesOf (c .n1) (c .n2) (putTo c x (r .cell + 1))
   unfolding putTo fill
   put-next x =
-      turn-if (c .n1) (c .n2) dark (putTo c x (r .cell)) (putTo c x (r .cell + 1)) (r .row) (r .column) (λ e. at-row c F r A l) (λ e. A .column-in)
+      turned-if-bytes (c .n1) (c .n2) dark (putTo c x (r .cell)) (putTo c x (r .cell + 1)) (r .row) (r .column) (λ e. at-row c F r A l) (λ e. A .column-in)
       (λ i j li lj.
       grow (dataOrder c (cellNumber c i j)) (r .cell) dark (fill c x 0 i j) (eqb (r .row) i && eqb (r .column) j) (here i j li lj)
       (λ h. not-true (eqb (r .row) i && eqb (r .column) j) (λ e. h (there i j e))))
@@ -152,7 +146,7 @@ module _ (c : Code) (F : Formed c) (r : Cursor) (A : At c r) (l : r .cell < c .n
           bytes-equal 1 (dataSize c) (takenTo c s (r .cell)) (takenTo c s (r .cell + 1))
           (λ i d li ld. ap (λ (t : ℕ). ltb d t && dataOf c s d) (sym (rank-kept c F r A l e)))
       go false e =
-          turn-if 1 (dataSize c) (s (r .row) (r .column)) (takenTo c s (r .cell)) (takenTo c s (r .cell + 1)) 0 (r .place) (λ b. omega arith) (λ b. at-below c F r A l e)
+          turned-if-bytes 1 (dataSize c) (s (r .row) (r .column)) (takenTo c s (r .cell)) (takenTo c s (r .cell + 1)) 0 (r .place) (λ b. omega arith) (λ b. at-below c F r A l e)
           (λ i d li ld.
           grow d (rank c (r .cell)) (s (r .row) (r .column)) (dataOf c s d) (eqb 0 i && eqb (r .place) d)
           (λ q. (ap₂ _&&_ (eq-eqb 0 i (omega arith)) (eq-eqb (r .place) d (A .place-is ∙ sym q)), ap (dataOf c s) q ∙ at-bit c F r A l s e))

@@ -7,10 +7,10 @@
 -- Assumes nothing.
 use mathlib.Core.Path.{_≡_}
 use Prim.Native.Nat.{ℕ, _*_, _≤_, _<_}
-use native.Mathlib.Nat.{mul-le-mul, one-mul}
+use native.Mathlib.Nat.{mul-le-mul}
 use native.Mathlib.Omega.{arith}
 use Rattle.layout.specs.Cells.{rowBytes, sheetBytes, byteOf}
-use Rattle.layout.proofs.Form.{byte-inside}
+use Rattle.layout.proofs.Form.{byte-inside, row-sheet}
 use Rattle.plan.specs.Header.{Small}
 use Rattle.plan.specs.declared.header.Header.{Header}
 
@@ -19,10 +19,6 @@ cells-most h S = mul-le-mul (S .n1-most) (S .n2-most)
 
 pub pair-most : (h : Header) → Small h → (row : ℕ) → row < 65536 → row * h .n2 ≤ 45744128
 pair-most h S row l = let m : row * h .n2 ≤ 65536 * 698 = mul-le-mul (let w : row ≤ 65536 = omega arith in w) (S .n2-most) in m
-
-pub row-sheet : (k : ℕ) → sheetBytes 1 k ≡ rowBytes k
-unfolding sheetBytes
-row-sheet k = one-mul (rowBytes k)
 
 pub place-inside : (k d n : ℕ) → n ≡ rowBytes k → d < k → byteOf k 0 d < n
 place-inside k d n e l =

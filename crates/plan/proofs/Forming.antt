@@ -7,7 +7,7 @@
 --   formed                 where checks 1 to 7 pass, the code is formed; form-passes is the other way
 --
 -- Assumes nothing.
-use mathlib.Core.Path.{_≡_, refl, sym, ap, _∙_}
+use mathlib.Core.Path.{_≡_, refl, ap, _∙_}
 use mathlib.Core.Bool.{Bool, true, false, not, _||_, _&&_}
 use mathlib.Core.List.{List}
 use Prim.Native.Nat.{ℕ, zero, suc, _+_, _-_, _*_, _^_, _≤_, _<_}
@@ -19,12 +19,11 @@ use lib.Dec.{eqb, ltb, leb}
 use lib.ListN.{length}
 use Rattle.finite.specs.Search.{least}
 use Rattle.finite.proofs.Truth.{or-false, or-cases, or-left, or-right, and-left, and-right, and-both}
-use Rattle.finite.proofs.Search.{least-le, least-first, least-none}
+use Rattle.finite.proofs.Search.{least-first, least-none}
 use Rattle.boxcode.specs.Code.{Code, Formed, cellNumber}
 use Rattle.plan.specs.declared.verdict.Verdict.{Verdict}
-use Rattle.plan.specs.declared.header.Header.{Header}
 use Rattle.plan.specs.Verdict.{accepted, refusal, verdictIf, _orElse_}
-use Rattle.plan.specs.Header.{headerLength, headerOf, Small, Framed, columnsStart, checksStart, planLength}
+use Rattle.plan.specs.Header.{headerLength, headerOf, Framed, columnsStart, checksStart, planLength}
 use Rattle.plan.specs.Bytes.{codeOf}
 use Rattle.plan.specs.Form.{badBurst, badSheet, badWidths, badOffsets, fieldsVerdict, headerVerdict, firstLarge, entriesVerdict, rises, badPair, listVerdict, formVerdict, verdictAt}
 use Rattle.plan.proofs.Framing.{framed}

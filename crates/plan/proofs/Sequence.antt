@@ -13,7 +13,7 @@ use native.Mathlib.Omega.{arith}
 use borrow.Author.Tests.{eq-eqb, ne-eqb, eqb-true, eqb-false}
 use lib.Dec.{eqb}
 use Rattle.plan.specs.declared.verdict.Verdict.{Verdict}
-use Rattle.plan.specs.Verdict.{accepted, refusal, verdictIf, _orElse_}
+use Rattle.plan.specs.Verdict.{refusal, verdictIf, _orElse_}
 
 pub else-second : (v w : Verdict) → v .number ≡ 0 → v orElse w ≡ w
 unfolding _orElse_

@@ -8,7 +8,7 @@
 --   listVerdict       check 7
 --   formVerdict       checks 1 to 7
 use Prim.Native.Nat.{ℕ, _+_, _-_, _*_, _^_}
-use mathlib.Core.Bool.{Bool, cond, not, _||_, _&&_}
+use mathlib.Core.Bool.{Bool, not, _||_, _&&_}
 use mathlib.Core.List.{List}
 use lib.Dec.{leb, ltb, eqb}
 use lib.ListN.{length}
@@ -16,7 +16,7 @@ use Rattle.finite.specs.Search.{least}
 use Rattle.boxcode.specs.Code.{Code}
 use Rattle.plan.specs.declared.verdict.Verdict.{Verdict}
 use Rattle.plan.specs.declared.header.Header.{Header}
-use Rattle.plan.specs.Verdict.{accepted, refusal, verdictIf, _orElse_}
+use Rattle.plan.specs.Verdict.{refusal, verdictIf, _orElse_}
 use Rattle.plan.specs.Header.{headerLength, headerOf, columnsStart, checksStart, planLength}
 use Rattle.plan.specs.Bytes.{codeOf}
 

@@ -5,7 +5,7 @@
 --   columnsStart, checksStart, planLength   where the column table and the check list begin and the plan ends, by the rule
 --   Small h        checks 2 to 4 hold
 --   Framed s h     h is the header of the plan s, and checks 1 to 5 hold: what every later step starts from
-use Prim.Native.Nat.{ℕ, _+_, _*_, _≤_, _<_}
+use Prim.Native.Nat.{ℕ, _+_, _*_, _≤_}
 use mathlib.Core.Path.{_≡_}
 use mathlib.Core.List.{List}
 use lib.ListN.{length}

@@ -1,7 +1,5 @@
 // The answer of a check: 0, or its number in document 01's table with two places.
 ghost use mathlib.Core.Path.{_≡_};
-ghost use mathlib.Core.Bool.{cond};
-ghost use lib.Dec.{ltb};
 ghost use Rattle.plan.specs.Verdict.{accepted, refusal, verdictIf};
 
 pub struct Verdict {

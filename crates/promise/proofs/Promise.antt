@@ -10,7 +10,7 @@ use mathlib.Core.Logic.{_⊎_, inl, inr}
 use mathlib.Core.List.{List}
 use Prim.Native.Nat.{ℕ}
 use native.Mathlib.Omega.{arith}
-use Rattle.layout.proofs.Form.{same-bytes, bytes-form, bytes-cell}
+use Rattle.layout.proofs.Form.{same-bytes, bytes-form, bytes-cell, row-sheet}
 use Rattle.boxcode.specs.Code.{Code}
 use Rattle.boxcode.specs.Syndrome.{SameCells}
 use Rattle.boxcode.specs.Check.{dataSize, written}
@@ -26,7 +26,7 @@ use Rattle.plan.specs.Bytes.{codeOf}
 use Rattle.accept.specs.Verdict.{Accepted}
 use Rattle.accept.proofs.Acceptance.{accepted-plan, plan-accepted}
 use Rattle.buffers.specs.Buffers.{writeChecks}
-use Rattle.buffers.proofs.Passing.{row-sheet, writes-pass}
+use Rattle.buffers.proofs.Passing.{writes-pass}
 use Rattle.writer.specs.Write.{dataBits, writtenBytes, write}
 use Rattle.reader.specs.Read.{Outcome, readOutcome}
 use Rattle.promise.specs.Promise as promise

@@ -16,13 +16,12 @@ use lib.ListN.{length}
 use Rattle.layout.specs.Cells.{rowBytes, sheetBytes, firstUnused, cellOf}
 use Rattle.boxcode.specs.Code.{Code, Formed}
 use Rattle.boxcode.specs.Check.{dataSize}
-use Rattle.boxcode.specs.Reader.{mendable, change, reportOf}
+use Rattle.boxcode.specs.Reader.{mendable, change}
 use Rattle.boxcode.proofs.Reader.{change-burst}
 use Rattle.boxcode.proofs.Report.{burst-report}
 use Rattle.plan.specs.declared.verdict.Verdict.{Verdict}
 use Rattle.plan.specs.Verdict.{refusal, verdictIf, accepted, _orElse_}
 use Rattle.plan.specs.Bytes.{codeOf}
-use Rattle.plan.specs.Form.{verdictAt}
 use Rattle.accept.specs.Verdict.{planVerdict}
 use Rattle.accept.proofs.Acceptance.{accepted-plan}
 use Rattle.accept.proofs.Range.{Fits, accepted-fits, else-fits, if-fits, at-fits, plan-fits}

@@ -26,7 +26,7 @@ use Rattle.gf2.specs.Xor.{_⊕_, pick}
 use Rattle.gf2.specs.Sum.{xorSum, chosenSum}
 use Rattle.gf2.proofs.Xor.{xor-is, pick-below}
 use Rattle.gf2.proofs.Sum.{sum-none, sum-next, sum-equal, sum-zero, sum-below, sum-split}
-use Rattle.layout.proofs.Form.{bit-none}
+use Rattle.finite.proofs.Digits.{bit-none}
 use Rattle.syndrome.specs.Gather.{byteSum, rowsAt, columnsAt, Words}
 
 -- ---- a byte

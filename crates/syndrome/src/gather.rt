@@ -1,6 +1,6 @@
 // Gathering the two sums: a byte, a row, the sheet.
 ghost use mathlib.Core.Path.{_≡_};
-ghost use Prim.Native.Nat.{ℕ, _+_, _-_, _*_, _%_, _≤_, _<_, min};
+ghost use Prim.Native.Nat.{ℕ, _+_, _-_, _*_, _%_, _≤_, _<_};
 ghost use lib.ListN.{length};
 ghost use Rattle.layout.specs.Cells.{sheetBytes, cellOf};
 ghost use Rattle.plan.specs.Header.{Framed};
@@ -9,6 +9,7 @@ ghost use Rattle.plan.specs.Table.{Unpacked};
 ghost use Rattle.syndrome.specs.Gather.{RowWords, Words, ByteSums, RowSums, SheetSums};
 use crate::sums::Sums;
 use layout::cells::row_bytes;
+use layout::compare::smaller;
 use plan::entry::row_entry;
 use plan::header::Header;
 
@@ -21,16 +22,6 @@ fn next(k: usize, b: usize) -> usize
         return 0;
     }
     k + 1
-}
-
-// How many of the next 8 cells there are.
-fn eight(left: usize) -> usize
-    ensures { λ r. ⌜ r ≡ min 8 left ⌝ }
-{
-    if left < 8 {
-        return left;
-    }
-    8
 }
 
 // The V entries of row i, of which there are b2.
@@ -67,7 +58,7 @@ fn byte_sums(
     if x == 0 {
         return Sums { row: 0, column: 0 };
     }
-    let count = eight(n2 - j);
+    let count = smaller(8, n2 - j);
     let mut rest = x as u64;
     let mut place = j % b2;
     let mut k = j * b1 + q;

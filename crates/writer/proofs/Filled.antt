@@ -20,28 +20,21 @@ use lib.Dec.{eqb, ltb}
 use lib.ListN.{length, getD, length-set}
 use Rattle.finite.specs.Search.{bit, numberOf}
 use Rattle.finite.proofs.Truth.{clash, not-true, same-truth, xor-none, both-equal, equal-both}
-use Rattle.finite.proofs.Digits.{bit-number}
+use Rattle.finite.proofs.Digits.{bit-none, bit-number}
 use Rattle.gf2.specs.Xor.{_⊕_}
 use Rattle.gf2.specs.Sum.{chosenSum}
 use Rattle.layout.specs.Cells.{byteOf, cellOf, bytesOf, turned, turnedIf}
-use Rattle.layout.proofs.Form.{bit-none, bytes-cell, bytes-equal}
-use Rattle.layout.proofs.Turned.{turned-bytes}
+use Rattle.layout.proofs.Form.{bytes-cell, bytes-equal}
+use Rattle.layout.proofs.Turned.{turned-if-bytes}
 use Rattle.boxcode.specs.Code.{Code, Formed, cellNumber, jointWeight, checkJoint}
 use Rattle.boxcode.specs.Condition.{Conditions}
 use Rattle.boxcode.specs.Syndrome.{Cells, weightSum}
 use Rattle.boxcode.specs.Check.{Bits, checkNumber, checkAt, dataSize, dataCell, fill, written, dataOf}
 use Rattle.boxcode.proofs.Syndrome.{weight-cells}
 use Rattle.boxcode.proofs.Check.{number-cell, check-listed, check-here, data-free}
-use Rattle.boxcode.proofs.Fill.{checkCell, same-cells, fill-check, data-fill}
+use Rattle.boxcode.proofs.Fill.{same-cells, fill-check, data-fill}
 use Rattle.boxcode.proofs.Written.{fill-belongs, writable, written-only}
 use Rattle.writer.specs.Steps.{JointSum, turnedTo}
-
--- a cell that is turned over if b holds
-turn-if : (n1 n2 : ℕ) (b : Bool) (p q : Cells) (i j : ℕ) → i < n1 → j < n2
-    → ((x y : ℕ) → x < n1 → y < n2 → xor (p x y) (b && (eqb i x && eqb j y)) ≡ q x y)
-    → turnedIf b n2 (bytesOf n1 n2 p) i j ≡ bytesOf n1 n2 q
-turn-if n1 n2 true p q i j li lj h = turned-bytes n1 n2 p q i j li lj h
-turn-if n1 n2 false p q i j li lj h = bytes-equal n1 n2 p q (λ x y lx ly. sym (xor-none (p x y)) ∙ h x y lx ly)
 
 pub turned-none : (c : Code) (y : ℕ) (s : List ℕ) → s ≡ turnedTo c y 0 s
 unfolding turnedTo
@@ -117,7 +110,7 @@ module _ (c : Code) (F : Formed c) where
     turned-once : (t : Bool) (k a b : ℕ) → k < c .rv + c .rh → ((j : ℕ) → j < c .rv + c .rh → xor (bit a j) (t && eqb k j) ≡ bit b j)
         → turnedIf t (c .n2) (bytesOf (c .n1) (c .n2) (fill c x a)) (c .checkRow k) (c .checkColumn k) ≡ bytesOf (c .n1) (c .n2) (fill c x b)
     turned-once t k a b lk h =
-        turn-if (c .n1) (c .n2) t (fill c x a) (fill c x b) (c .checkRow k) (c .checkColumn k) (F .check-rows k lk) (F .check-columns k lk)
+        turned-if-bytes (c .n1) (c .n2) t (fill c x a) (fill c x b) (c .checkRow k) (c .checkColumn k) (λ _. F .check-rows k lk) (λ _. F .check-columns k lk)
         (same-cells c F s (fill c x b)
         (λ j lj.
         ap₂ (λ (u w : Bool). xor u (t && w)) (fill-check c F x a j lj) (same-check k j lk lj) ∙ h j lj ∙ sym (fill-check c F x b j lj))

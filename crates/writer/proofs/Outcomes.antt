@@ -6,21 +6,17 @@
 --   written-one                     and it is the only sheet that does
 --
 -- Assumes nothing.
-use mathlib.Core.Path.{_≡_, refl, sym, ap, _∙_}
-use mathlib.Core.Bool.{cond}
+use mathlib.Core.Path.{_≡_, sym, _∙_}
 use mathlib.Core.List.{List}
 use Prim.Native.Nat.{ℕ, _<_}
 use borrow.Author.Tests.{eq-eqb, ne-eqb}
-use lib.Dec.{eqb}
-use Rattle.layout.specs.Cells.{cellOf, bytesOf, RightForm}
+use Rattle.layout.specs.Cells.{cellOf, RightForm}
 use Rattle.layout.proofs.Form.{bytes-form, bytes-cell, same-bytes}
 use Rattle.boxcode.specs.Syndrome.{Belongs}
 use Rattle.boxcode.specs.Check.{dataSize, written, dataOf}
 use Rattle.boxcode.proofs.Syndrome.{belongs-cells}
 use Rattle.boxcode.proofs.Fill.{data-cells}
-use Rattle.boxcode.proofs.Written.{writable}
 use Rattle.boxcode.proofs.Theorems as code
-use Rattle.plan.specs.declared.verdict.Verdict.{Verdict}
 use Rattle.plan.specs.Verdict.{accepted}
 use Rattle.plan.specs.Bytes.{codeOf}
 use Rattle.accept.specs.Verdict.{Accepted}

@@ -5,20 +5,17 @@
 --   never-outside        under an accepted plan it finds one
 --
 -- Assumes nothing.
-use mathlib.Core.Path.{_≡_, refl, sym, ap, ap₂, _∙_}
-use mathlib.Core.Bool.{Bool, true}
+use mathlib.Core.Path.{_≡_, sym, ap, ap₂, _∙_}
+use mathlib.Core.Bool.{true}
 use mathlib.Core.List.{List, [], append-nil}
 use Prim.Native.Nat.{ℕ, _+_, _*_, _^_, _≤_, _<_}
 use native.Mathlib.Omega.{arith}
 use lib.ListN.{length}
 use Rattle.finite.specs.Search.{bit}
-use Rattle.gf2.specs.Xor.{pick}
 use Rattle.gf2.specs.Sum.{chosenSum}
 use Rattle.gf2.specs.Vectors.{spans, freeFrom}
-use Rattle.gf2.specs.Solver.{digit, combination, solved, solverOf, solution}
-use Rattle.gf2.specs.declared.Solution.{Solution}
+use Rattle.gf2.specs.Solver.{combination, solved, solverOf}
 use Rattle.gf2.specs.declared.Solution.the-variants.{Combination, Outside}
-use Rattle.gf2.proofs.Sum.{sum-equal}
 use Rattle.gf2.proofs.Spans.{spans-turned}
 use Rattle.gf2.proofs.Vectors.{free-listed, spanned-listed, listed-length}
 use Rattle.gf2.proofs.Independence.{independent-free}
@@ -65,7 +62,7 @@ module _ (c : Code) (F : Formed c) (K : Conditions c) (target : ℕ) (t : target
       ∙ full-span (c .rv + c .rh) (checkJoint c) few below (independent-free (c .rv + c .rh) everyone (checkJoint c) (K .checks)) target t
 
   digits-sum : (y : ℕ) → combination (jointsOf c) y ≡ chosenSum (c .rv + c .rh) (bit y) (checkJoint c)
-  unfolding jointsOf digit bit
+  unfolding jointsOf
   digits-sum y = combination-listed (c .rv + c .rh) (checkJoint c) y
 
   found : (y : ℕ) × (solved (solverOf (jointsOf c) .basis) (solverOf (jointsOf c) .combos) target ≡ Combination y) × (chosenSum (c .rv + c .rh) (bit y) (checkJoint c) ≡ target)

@@ -1,5 +1,4 @@
 -- `answer::pack` meets its contract: the fields are in range, so no sum wraps. Assumes nothing.
-use mathlib.Core.Path.{refl}
 use native.Mathlib.Omega.{arith}
 use Rattle.answer.specs.Answer.{packed}
 use borrow.Author.Needs.{needs}

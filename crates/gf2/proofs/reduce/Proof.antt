@@ -1,6 +1,6 @@
 -- `gf2::reduce` meets its contract. The loop's invariant: what is left reduces to the same as v. The measure is what is left.
 -- Assumes nothing.
-use Prim.Native.Nat.{_≤_, _-_}
+use Prim.Native.Nat.{_≤_}
 use mathlib.Core.Path.{_≡_, sym, _∙_}
 use native.Mathlib.Omega.{arith}
 use borrow.Author.Needs.{needs}

@@ -1,6 +1,6 @@
 -- `gf2::reduce_combined` meets its contract. The loop's invariant: from what is left and the combination so far, the result is the
 -- same as from v and y. Assumes nothing.
-use Prim.Native.Nat.{_≤_, _-_}
+use Prim.Native.Nat.{_≤_}
 use mathlib.Core.Path.{_≡_, sym, _∙_}
 use native.Mathlib.Omega.{arith}
 use borrow.Author.Needs.{needs}

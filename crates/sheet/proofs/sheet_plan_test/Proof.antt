@@ -1,5 +1,4 @@
 -- `sheet::sheet_plan_test` meets its contract: the number and places fit their fields. Assumes nothing.
-use mathlib.Core.Path.{_≡_, sym, _∙_}
 use native.Mathlib.Omega.{arith}
 use Rattle.accept.proofs.Range.{Fits, plan-fits}
 use Rattle.sheet.specs.Calls.{planAnswer}

@@ -1,9 +1,6 @@
 -- `sheet::sheet_read` meets its contract: the reader's outcome, its numbers packed. Assumes nothing.
 use mathlib.Core.Path.{_≡_, ap}
-use native.Mathlib.Omega.{arith}
 use Rattle.answer.specs.Answer.{packed}
-use Rattle.plan.specs.declared.verdict.Verdict.{Verdict}
-use Rattle.mend.specs.declared.report.Report.{Report}
 use Rattle.accept.proofs.Range.{Fits}
 use Rattle.reader.specs.Read.{Outcome, readOutcome}
 use Rattle.sheet.specs.Calls.{reportFields, readTo, readCall}

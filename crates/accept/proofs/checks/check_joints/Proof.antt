@@ -1,9 +1,9 @@
 -- `accept::checks::check_joints` meets its contract. The invariant: the first k words are the joint entries of the first k check cells.
 -- Assumes nothing.
-use mathlib.Core.Path.{_≡_, refl, sym, ap, _∙_}
-use Prim.Native.Nat.{ℕ, _+_, _-_, _≤_, _<_}
+use mathlib.Core.Path.{_≡_, refl, sym, _∙_}
+use Prim.Native.Nat.{_+_, _-_, _≤_}
 use native.Mathlib.Omega.{arith}
-use lib.ListN.{length, take, length-set, length-replicate}
+use lib.ListN.{length, take, length-set}
 use Rattle.gf2.specs.Vectors.{listed}
 use Rattle.boxcode.specs.Code.{checkJoint}
 use Rattle.boxcode.specs.Condition.{everyone}

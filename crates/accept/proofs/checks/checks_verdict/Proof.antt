@@ -1,8 +1,7 @@
 -- `accept::checks::checks_verdict` meets its contract: the basis stops at the first dependent entry. Assumes nothing.
-use mathlib.Core.Path.{_≡_, refl, sym, ap, _∙_}
+use mathlib.Core.Path.{_≡_, sym}
 use Prim.Native.Nat.{_+_}
 use native.Mathlib.Omega.{arith}
-use lib.ListN.{take}
 use lib.Seq.{length-take-le}
 use Rattle.finite.specs.Search.{least}
 use Rattle.gf2.specs.Basis.{emptyWords, extended}

@@ -1,5 +1,5 @@
 -- `accept::pairs::pair_verdict` meets its contract: one case for each outcome of the search. Assumes nothing.
-use mathlib.Core.Path.{_≡_, refl, sym, ap, _∙_}
+use mathlib.Core.Path.{sym, ap, _∙_}
 use Rattle.accept.specs.Pairs.{pairVerdict}
 use borrow.Author.Needs.{needs}
 use Rattle.accept.proofs.pairs.pair_verdict.Statement.{statement}

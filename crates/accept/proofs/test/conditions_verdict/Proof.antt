@@ -1,5 +1,5 @@
 -- `accept::test::conditions_verdict` meets its contract: each check is asked for only where those before it gave 0. Assumes nothing.
-use mathlib.Core.Path.{_≡_, refl, sym, ap, _∙_}
+use mathlib.Core.Path.{_≡_, sym, ap, _∙_}
 use Rattle.plan.specs.declared.verdict.Verdict.{Verdict}
 use Rattle.plan.specs.Verdict.{_orElse_}
 use Rattle.plan.specs.Bytes.{codeWith}

@@ -1,8 +1,7 @@
 -- `buffers::lent::length_checks` meets its contract: each check is asked for only where those before it gave 0. Assumes nothing.
-use mathlib.Core.Path.{_≡_, refl, sym, ap, _∙_}
-use Prim.Native.Nat.{_*_, _≤_}
+use mathlib.Core.Path.{_≡_, sym, ap, _∙_}
 use native.Mathlib.Omega.{arith}
-use Rattle.layout.specs.Cells.{rowBytes, sheetBytes}
+use Rattle.layout.specs.Cells.{sheetBytes}
 use Rattle.boxcode.specs.Check.{dataSize}
 use Rattle.boxcode.proofs.Check.{checks-fit}
 use Rattle.plan.specs.declared.verdict.Verdict.{Verdict}

@@ -1,9 +1,9 @@
 -- `buffers::lent::read_checks` meets its contract: unused bits are looked for in a buffer of the right length. Assumes nothing.
-use mathlib.Core.Path.{_≡_, refl, sym, ap, _∙_}
+use mathlib.Core.Path.{_≡_, sym, ap, _∙_}
 use native.Mathlib.Omega.{arith}
 use Rattle.plan.specs.declared.verdict.Verdict.{Verdict}
 use Rattle.plan.specs.Bytes.{codeOf}
-use Rattle.buffers.specs.Buffers.{lengthChecks, unusedVerdict}
+use Rattle.buffers.specs.Buffers.{lengthChecks}
 use Rattle.buffers.proofs.Passing.{stops, goes-on, Lengths, length-zero, read-joined}
 use borrow.Author.Needs.{needs}
 use Rattle.buffers.proofs.lent.read_checks.Statement.{statement}

@@ -1,12 +1,13 @@
 -- `buffers::lent::write_checks` meets its contract: unused bits are looked for in a buffer of the right length. Assumes nothing.
-use mathlib.Core.Path.{_≡_, refl, sym, ap, _∙_}
+use mathlib.Core.Path.{_≡_, sym, ap, _∙_}
 use native.Mathlib.Omega.{arith}
 use Rattle.boxcode.specs.Check.{dataSize}
 use Rattle.boxcode.proofs.Check.{checks-fit}
 use Rattle.plan.specs.declared.verdict.Verdict.{Verdict}
 use Rattle.plan.specs.Bytes.{codeOf}
-use Rattle.buffers.specs.Buffers.{lengthChecks, unusedVerdict}
-use Rattle.buffers.proofs.Passing.{stops, goes-on, size-most, row-sheet, Lengths, length-zero, write-joined}
+use Rattle.buffers.specs.Buffers.{lengthChecks}
+use Rattle.layout.proofs.Form.{row-sheet}
+use Rattle.buffers.proofs.Passing.{stops, goes-on, size-most, Lengths, length-zero, write-joined}
 use borrow.Author.Needs.{needs}
 use Rattle.buffers.proofs.lent.write_checks.Statement.{statement}
 use Rattle.buffers.proofs.lent.write_checks.Tie as tie

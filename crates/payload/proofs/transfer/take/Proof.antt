@@ -4,13 +4,13 @@ use Prim.Native.Nat.{ℕ, _+_, _-_, _*_, _≤_, _<_}
 use native.Mathlib.Omega.{arith}
 use lib.ListN.{length, replicate}
 use Rattle.layout.specs.Cells.{cellOf, bytesOf}
-use Rattle.layout.proofs.Form.{byte-inside, bytes-form}
+use Rattle.layout.proofs.Form.{byte-inside, bytes-form, row-sheet}
 use Rattle.boxcode.specs.Check.{dataSize}
 use Rattle.boxcode.proofs.Check.{checks-fit}
 use Rattle.plan.specs.Bytes.{codeWith}
 use Rattle.payload.specs.Walk.{At}
 use Rattle.payload.specs.Transfer.{takenTo}
-use Rattle.payload.proofs.Size.{cells-most, row-sheet, place-inside}
+use Rattle.payload.proofs.Size.{cells-most, place-inside}
 use Rattle.payload.proofs.Stand.{at-row, at-below}
 use Rattle.payload.proofs.Progress.{take-first, take-step, take-all}
 use Rattle.payload.proofs.transfer.take.Statement.{statement}

@@ -1,5 +1,5 @@
 -- `plan::form::bad_offsets` meets its contract: the numbers are small, so no sum wraps. Assumes nothing.
-use mathlib.Core.Path.{_≡_, refl, sym, _∙_}
+use mathlib.Core.Path.{refl}
 use Rattle.plan.specs.Form.{badOffsets}
 use borrow.Author.Needs.{needs}
 use Rattle.plan.proofs.form.bad_offsets.Statement.{statement}

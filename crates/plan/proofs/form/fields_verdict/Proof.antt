@@ -1,5 +1,5 @@
 -- `plan::form::fields_verdict` meets its contract: where checks 2 to 4 pass the header is small, and check 5 can be computed. Assumes nothing.
-use mathlib.Core.Path.{_≡_, refl, sym, _∙_}
+use mathlib.Core.Path.{_≡_}
 use mathlib.Core.Bool.{true, false}
 use Rattle.plan.specs.Verdict.{_orElse_}
 use Rattle.plan.specs.Form.{badBurst, badSheet, badWidths, fieldsVerdict}

@@ -1,5 +1,4 @@
 -- `plan::form::list_verdict` meets its contract: the search found the place or ran to its end. Assumes nothing.
-use mathlib.Core.Path.{_≡_, refl, sym, _∙_}
 use Rattle.plan.specs.Form.{listVerdict}
 use borrow.Author.Needs.{needs}
 use Rattle.plan.proofs.form.list_verdict.Statement.{statement}

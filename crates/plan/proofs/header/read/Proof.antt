@@ -1,5 +1,4 @@
 -- `plan::header::read` meets its contract: ten numbers, each in its place. Assumes nothing.
-use mathlib.Core.Path.{refl}
 use Rattle.plan.specs.Header.{headerOf}
 use borrow.Author.Needs.{needs}
 use Rattle.plan.proofs.header.read.Statement.{statement}

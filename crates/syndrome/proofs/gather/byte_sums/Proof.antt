@@ -26,17 +26,17 @@ returns c =
       column-below = omega arith;
     }
 
-sub-eight : tie.Need-sub-eight Inv-loop μ-loop
-sub-eight c = omega arith
+sub-smaller : tie.Need-sub-smaller Inv-loop μ-loop
+sub-smaller c = omega arith
 
-eight-requires : tie.Need-eight-requires Inv-loop μ-loop
-eight-requires c κs = tt
+smaller-requires : tie.Need-smaller-requires Inv-loop μ-loop
+smaller-requires c κs = tt
 
 rem-place : tie.Need-rem-place Inv-loop μ-loop
 rem-place c = omega arith
 
 -- the first index
-start : (c : tie.After-eight Inv-loop μ-loop)
+start : (c : tie.After-smaller Inv-loop μ-loop)
     → c .before .before .before .args .j * c .before .before .before .args .b1 + c .before .before .before .args .q
     < c .before .before .before .args .n2 * c .before .before .before .args .b1
 start c = index-below _ _ _ _ _ _ (c .before .before .before .pre .0) _ (c .before .before .before .pre .1)
@@ -48,7 +48,7 @@ add-k : tie.Need-add-k Inv-loop μ-loop
 add-k c = let l = start c in omega arith
 
 loop-holds : tie.Need-loop-holds Inv-loop μ-loop
-loop-holds c = (omega arith, c .eight .ensures, walk-first _ _ _ _ _ _ _)
+loop-holds c = (omega arith, c .smaller .ensures, walk-first _ _ _ _ _ _ _)
 
 here : (c : tie.In-loop Inv-loop μ-loop)
     → Here (c .before .before .before .before .before .args .n2) (c .before .before .before .before .before .args .b1) (c .before .before .before .before .before .args .b2)
@@ -116,8 +116,8 @@ byte-sums-spec =
     Inv-loop
     μ-loop
     returns
-    sub-eight
-    eight-requires
+    sub-smaller
+    smaller-requires
     rem-place
     mul-k
     add-k

@@ -1,5 +1,5 @@
 -- `writer::writing::write_sheet` meets its contract: the check cells are turned over that bring the joint sum to 0. Assumes nothing.
-use mathlib.Core.Path.{_≡_, _∙_}
+use mathlib.Core.Path.{_∙_}
 use Rattle.boxcode.specs.Check.{dataSize}
 use Rattle.plan.specs.Bytes.{codeWith}
 use Rattle.writer.specs.Write.{dataBits}
