@@ -28,10 +28,7 @@ use Rattle.finite.specs.Search.{place}
 use Rattle.finite.proofs.Digits.{place-to}
 use Rattle.gf2.specs.Xor.{_⊕_}
 use Rattle.gf2.proofs.Xor.{xor-is}
-use Rattle.gf2.specs.Vectors.{listed, freeFrom}
-use Rattle.gf2.specs.Swept.{KeptOf}
-use Rattle.gf2.specs.declared.Kept.{Kept}
-use Rattle.gf2.proofs.Keeping.{kept-free}
+use Rattle.gf2.specs.Vectors.{takenFrom, listed, freeFrom}
 use Rattle.gf2.proofs.Vectors.{listed-in, listed-out, listed-none, free-listed}
 use Rattle.gf2.proofs.Independence.{free-equal}
 use Rattle.boxcode.specs.Code.{Code}
@@ -155,13 +152,13 @@ unfolding columnPairFree membersOf
 members-free c a b = free-listed (c .b2 * c .b1) (columnMember c a b) (columnDifference c a b)
 
 -- all gathered members are taken exactly where they are free
-pub gathered-free : (words : List ℕ) (height width a b : ℕ) {g : Gathered} {r : Kept}
-    → Members g (membersOf (columnCode words height width) a b width) → KeptOf (take (g .count) (g .words)) r
-    → eqb (r .taken) (g .count) ≡ columnPairFree (columnCode words height width) a b
+pub gathered-free : (words : List ℕ) (height width a b : ℕ) {g : Gathered} {r : ℕ}
+    → Members g (membersOf (columnCode words height width) a b width) → r ≡ takenFrom [] (take (g .count) (g .words))
+    → eqb r (g .count) ≡ columnPairFree (columnCode words height width) a b
+unfolding freeFrom
 gathered-free words height width a b {g} {r} m k =
     let n : length (take (g .count) (g .words)) ≡ g .count = length-take-le (g .count) (g .words) (omega (arith, m .size, m .most)) in
-    ap (eqb (r .taken)) (sym n) ∙ kept-free (take (g .count) (g .words)) r (omega (arith, m .most)) k
-    ∙ ap (freeFrom []) (m .held) ∙ sym (members-free (columnCode words height width) a b)
+    ap₂ eqb k (sym n) ∙ ap (freeFrom []) (m .held) ∙ sym (members-free (columnCode words height width) a b)
 
 -- two strips of a table
 pub strips-of : {n height width count : ℕ} (a b : ℕ) → AllStrips n height width count → a < b → b < count → Strips n height width a b

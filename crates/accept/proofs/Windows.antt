@@ -5,7 +5,7 @@
 --   entries-length, entries-at, entries-next   the first entries of the row table, and one more
 --   Changed, changed-start, changed-next   a table whose words are changed one after another
 --   kept-most        at most 64 are kept
---   run-free         a run is free where all of it is kept
+--   run-free         a run is free where all of it is counted
 --   runs-swept       two runs are free where all of the first are kept and the rest of the second is free as they leave it
 --
 -- Assumes nothing.
@@ -21,10 +21,10 @@ use lib.Dec.{eqb}
 use lib.ListN.{length, getD, take, drop, set, length-set, length-append, List·getD-append, length-take, length-drop, length-map}
 use lib.Seq.{take-suc-set, getD-append-seam, getD-take, getD-drop, getD-set-same, getD-set-other, ext-getD}
 use Rattle.gf2.specs.declared.Kept.{Kept}
-use Rattle.gf2.specs.Vectors.{freeFrom, part}
+use Rattle.gf2.specs.Vectors.{takenFrom, freeFrom, part}
 use Rattle.gf2.specs.Swept.{swept, KeptOf}
 use Rattle.gf2.proofs.Vectors.{taken-le}
-use Rattle.gf2.proofs.Keeping.{kept-free, kept-append}
+use Rattle.gf2.proofs.Keeping.{kept-append}
 use Rattle.plan.specs.Bytes.{rowEntryAt}
 use Rattle.accept.specs.Tables.{runsFree, sweptFree, rowEntries, spread, SweptFrom}
 
@@ -104,11 +104,10 @@ changed-next {g} {from} {k} {t₀} {t} c l v e = record {
 pub kept-most : {ms : List ℕ} {r : Kept} → KeptOf ms r → r .taken ≤ 64
 kept-most {ms} {r} k = omega (arith, k .count, taken-le (take 64 ms) [], length-take 64 ms)
 
--- a run is free where all of it is kept
-pub run-free : (a b : ℕ) (t : List ℕ) {r : Kept} → a ≤ b → b ≤ length t → b ≤ a + 64 → KeptOf (part a b t) r → eqb (r .taken) (b - a) ≡ freeFrom [] (part a b t)
-run-free a b t {r} l u s k =
-    let n = part-length a b t l u in
-    ap (eqb (r .taken)) (sym n) ∙ kept-free (part a b t) r (omega arith) k
+-- a run is free where all of it is counted
+pub run-free : (a b : ℕ) (t : List ℕ) {r : ℕ} → a ≤ b → b ≤ length t → r ≡ takenFrom [] (part a b t) → eqb r (b - a) ≡ freeFrom [] (part a b t)
+unfolding freeFrom
+run-free a b t l u e = ap₂ eqb e (sym (part-length a b t l u))
 
 pub runs-swept :
     (all : List ℕ) {words t : List ℕ} {base : Kept} (size a b : ℕ) → words ≡ all → size ≤ 64 → a ≤ b → b + size ≤ length all

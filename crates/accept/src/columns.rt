@@ -11,7 +11,7 @@ ghost use Rattle.accept.specs.Tables.{columnCode, Added, AllStrips, Stri
 ghost use Rattle.accept.specs.Verdict.{columnsVerdict};
 use crate::pairs::Pair;
 use crate::pairs::pair_verdict;
-use gf2::keep;
+use gf2::count_free;
 use plan::header::Header;
 use plan::table::column_table;
 use plan::verdict::Verdict;
@@ -84,7 +84,7 @@ fn strips_free(words: &[u64], height: usize, width: usize, a: usize, b: usize) -
     let g = gather(words, height, width, a, b);
     let members = g.words;
     let count = g.count;
-    let taken = keep(&members[..count]).taken;
+    let taken = count_free(&members[..count]);
     taken == count
 }
 

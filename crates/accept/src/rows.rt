@@ -10,6 +10,7 @@ ghost use Rattle.accept.specs.Verdict.{rowsVerdict};
 use crate::pairs::Pair;
 use crate::pairs::pair_verdict;
 use gf2::Kept;
+use gf2::count_free;
 use gf2::keep;
 use gf2::sweep;
 use layout::compare::larger;
@@ -46,12 +47,12 @@ fn sweep_table(base: Kept, from: usize, table: &mut [u64])
 
 // The words of the second run that are not in the first are free as they stand in swept, and so is the first of which taken words count.
 fn pair_free(taken: usize, swept: &[u64], size: usize, first: usize, second: usize) -> bool
-    requires { ⌜ (size ≤ 64) × (first ≤ second) × (second + size ≤ length (now swept)) ⌝ }
+    requires { ⌜ (size ≤ 16) × (first ≤ second) × (second + size ≤ length (now swept)) ⌝ }
     ensures { λ r. ⌜ r ≡ sweptFree taken (now (swept .entry)) size first second ⌝ }
 {
     let end = second + size;
     let from = larger(first + size, second);
-    let more = keep(&swept[from..end]).taken;
+    let more = count_free(&swept[from..end]);
     (taken == size) & (more == end - from)
 }
 

@@ -1,6 +1,7 @@
 -- Vectors taken off a number one after another, each where that makes it smaller.
 --
 --   swept ws v       what is left of v after the words ws, the first first
+--   sweptTwo ws a b  the same of two numbers
 --   kept ws ms       the words ws, and each of ms as the words before it leave it
 --   SweepOf vs ws    the words ws take off exactly what vs span
 --   KeptOf ms r      what the function `keep` gives for ms
@@ -15,10 +16,14 @@ use lib.ListN.{length, take}
 use Rattle.gf2.specs.Xor.{_⊕_}
 use Rattle.gf2.specs.Vectors.{spans, takenFrom}
 use Rattle.gf2.specs.declared.Kept.{Kept}
+use Rattle.gf2.specs.declared.Two.{Two}
 
 unfoldable pub swept : List ℕ → ℕ → ℕ
 swept [] v = v
 swept (w ∷ ws) v = swept ws (min v (v ⊕ w))
+
+abbrev pub sweptTwo : List ℕ → ℕ → ℕ → Two
+sweptTwo ws a b = record { first = swept ws a; second = swept ws b }
 
 unfoldable pub kept : List ℕ → List ℕ → List ℕ
 kept ws [] = ws

@@ -3,12 +3,15 @@
 // Three forms of what some vectors span:
 //   a basis, an array of 64 words, of which word k is 0 or has digit k as its leading digit (reduce, extend; proofs/Basis.antt);
 //   a basis with the combination of vectors that makes each word (solver_of, solve; proofs/Solving.antt);
-//   words in the order of the vectors, the quickest for a few vectors (sweep, keep; proofs/Swept.antt, Keeping.antt).
+//   words in the order of the vectors, the quickest for a few vectors (sweep, keep, count_free; proofs/Swept.antt, Keeping.antt).
 ghost use mathlib.Core.Path.{_≡_};
-ghost use Prim.Native.Nat.{min};
+ghost use Prim.Native.Nat.{_≤_, min};
+ghost use lib.ListN.{length};
+ghost use mathlib.Core.List.{[]};
+ghost use Rattle.gf2.specs.Vectors.{takenFrom};
 ghost use Rattle.gf2.specs.Basis.{emptyWords, reduced, extended};
 ghost use Rattle.gf2.specs.Solver.{combined, solved, solverOf};
-ghost use Rattle.gf2.specs.Swept.{swept, KeptOf};
+ghost use Rattle.gf2.specs.Swept.{swept, sweptTwo, KeptOf};
 
 // A basis after some vectors, and how many of them it took in before the first that it spanned already.
 pub struct Extended {
@@ -152,6 +155,58 @@ pub fn sweep(words: &[u64], v: u64) -> u64
         i += 1;
     }
     left
+}
+
+// Two numbers, swept by the same words.
+struct Two {
+    first: u64,
+    second: u64,
+}
+
+// What the words leave of two numbers. One step does not wait for the other, so two take little longer than one.
+fn sweep_two(words: &[u64], a: u64, b: u64) -> Two
+    ensures { λ r. ⌜ r ≡ sweptTwo (now (words .entry)) a b ⌝ }
+{
+    let mut first = a;
+    let mut second = b;
+    let mut i = 0;
+    while i < words.len() {
+        let w = words[i];
+        first = lesser(first, first ^ w);
+        second = lesser(second, second ^ w);
+        i += 1;
+    }
+    Two { first, second }
+}
+
+// How many of the members, of which there are at most 16, come before the first that those before it span. Two at a time.
+pub fn count_free(members: &[u64]) -> usize
+    requires { ⌜ length (now members) ≤ 16 ⌝ }
+    ensures { λ r. ⌜ r ≡ takenFrom [] (now (members .entry)) ⌝ }
+{
+    let mut words = [0u64; 16];
+    let mut i = 0;
+    while i + 1 < members.len() {
+        let two = sweep_two(&words[..i], members[i], members[i + 1]);
+        let first = two.first;
+        if first == 0 {
+            return i;
+        }
+        let second = lesser(two.second, two.second ^ first);
+        if second == 0 {
+            return i + 1;
+        }
+        words[i] = first;
+        words[i + 1] = second;
+        i += 2;
+    }
+    if i == members.len() {
+        return i;
+    }
+    if sweep(&words[..i], members[i]) == 0 {
+        return i;
+    }
+    i + 1
 }
 
 // The members as those before them leave them, up to the first of which nothing is left; at most 64.

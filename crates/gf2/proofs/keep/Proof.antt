@@ -12,20 +12,20 @@ use Rattle.gf2.proofs.keep.Statement.{statement}
 use Rattle.gf2.proofs.keep.Tie as tie
 
 abbrev Inv-loop : tie.InvT-loop
-Inv-loop members words₀ i₀ words i = (i ≤ length members) × (i ≤ 64) × (length words ≡ 64) × Keeping members (take i words) i
+Inv-loop members words₀ i₀ words i = (i ≤ length members) × (i ≤ 64) × (length words ≡ 64) × Keeping 64 members (take i words) i
 
 abbrev μ-loop : tie.MeasureT-loop
 μ-loop members words₀ i₀ words i = length members - i
 
 loop-holds : tie.Need-loop-holds Inv-loop μ-loop
-loop-holds c = (omega arith, omega arith, refl, keeping-start _)
+loop-holds c = (omega arith, omega arith, refl, keeping-start 64 _)
 
 returns : tie.Need-returns Inv-loop μ-loop
 returns c =
     let a = c .before .before .loop in
     record {
       size = a .inv .2;
-      count = sym (keeping-end _ _ (a .i) (a .inv .3) (omega (arith, length-take 64 (c .before .before .before .before .args .members .now))));
+      count = sym (keeping-end 64 _ _ (a .i) (a .inv .3) (omega (arith, length-take 64 (c .before .before .before .before .args .members .now))));
       words = a .inv .3 .words;
     }
 
@@ -49,7 +49,7 @@ returns-2 c =
     let a = c .before .before .before .before .before .before .loop in
     record {
       size = a .inv .2;
-      count = sym (keeping-stop _ _ (a .i) (a .inv .3) (omega arith) (omega arith) (sym (c .before .sweep .ensures) ∙ c .if2 .taken));
+      count = sym (keeping-stop 64 _ _ (a .i) (a .inv .3) (omega arith) (omega arith) (sym (c .before .sweep .ensures) ∙ c .if2 .taken));
       words = a .inv .3 .words;
     }
 
@@ -69,7 +69,7 @@ loop-again : tie.Need-loop-again Inv-loop μ-loop
 loop-again c =
     let a = c .before .before .before .before .before .before .loop in
     let r = c .before .sweep in
-    let k = keeping-next _ _ (a .i) (a .inv .3) (omega arith) (omega arith) (λ e. c .if2 .left (r .ensures ∙ e)) in (
+    let k = keeping-next 64 _ _ (a .i) (a .inv .3) (omega arith) (omega arith) (λ e. c .if2 .left (r .ensures ∙ e)) in (
       omega arith,
       omega arith,
       length-set (a .words) (a .i) (r .result) ∙ a .inv .2,
@@ -81,7 +81,7 @@ returns-3 c =
     let a = c .before .loop in
     record {
       size = a .inv .2;
-      count = sym (keeping-end _ _ (a .i) (a .inv .3) (omega (arith, length-take 64 (c .before .before .before .args .members .now))));
+      count = sym (keeping-end 64 _ _ (a .i) (a .inv .3) (omega (arith, length-take 64 (c .before .before .before .args .members .now))));
       words = a .inv .3 .words;
     }
 

@@ -1,4 +1,4 @@
--- `accept::rows::pair_free` meets its contract: a run is free where all of it is kept. Assumes nothing.
+-- `accept::rows::pair_free` meets its contract: a run is free where all of it is counted. Assumes nothing.
 use mathlib.Core.Path.{ap, _∙_}
 use mathlib.Core.Bool.{_&&_}
 use Prim.Native.Nat.{_+_}
@@ -19,20 +19,20 @@ add-larger c = search needs
 larger-requires : tie.Need-larger-requires
 larger-requires c κs = search needs
 
-mul-keep : tie.Need-mul-keep
-mul-keep c = search needs
+mul-count-free : tie.Need-mul-count-free
+mul-count-free c = search needs
 
-sub-keep : tie.Need-sub-keep
-sub-keep c = search needs
+sub-count-free : tie.Need-sub-count-free
+sub-count-free c = search needs
 
-part-keep-start : tie.Need-part-keep-start
-part-keep-start c = search needs
+part-count-free-start : tie.Need-part-count-free-start
+part-count-free-start c = search needs
 
-part-keep-end : tie.Need-part-keep-end
-part-keep-end c = search needs
+part-count-free-end : tie.Need-part-count-free-end
+part-count-free-end c = search needs
 
-keep-requires : tie.Need-keep-requires
-keep-requires c κs = search needs
+count-free-requires : tie.Need-count-free-requires
+count-free-requires c κs = search needs
 
 sub-result : tie.Need-sub-result
 sub-result c = search needs
@@ -43,7 +43,7 @@ returns c =
     let s = c .before .before .before .before in
     let e = c .before .before .larger .ensures in
     ap (_&&_ (eqb (s .args .taken) (s .args .size)))
-    (run-free (c .before .before .larger .result) (s .args .second + s .args .size) (s .args .swept .now) (omega arith) (omega arith) (omega arith) (c .keep .ensures)
+    (run-free (c .before .before .larger .result) (s .args .second + s .args .size) (s .args .swept .now) (omega arith) (omega arith) (c .count-free .ensures)
     ∙ rw e)
 
 pub pair-free-spec : {M : Type 1} → statement M
@@ -53,10 +53,10 @@ pair-free-spec =
     add-end
     add-larger
     larger-requires
-    mul-keep
-    sub-keep
-    part-keep-start
-    part-keep-end
-    keep-requires
+    mul-count-free
+    sub-count-free
+    part-count-free-start
+    part-count-free-end
+    count-free-requires
     sub-result
     returns)
