@@ -5,7 +5,6 @@
 --   data-cells, cell-data, cell-check   what a sheet holds in its data cells and in its check cells
 --   same-cells           a sheet is known by its check cells and its data
 --   fill-check, data-fill   what a filled sheet has in check cell k, and as its data
---   fill-back            every sheet is filled with its data and its check cells
 --
 -- Assumes nothing.
 use mathlib.Core.Path.{_≡_, sym, ap, ap₂, _∙_}
@@ -13,12 +12,11 @@ use mathlib.Core.Bool.{Bool, true, false, cond}
 use Prim.Native.Nat.{ℕ, _+_, _/_, _%_, _≤_, _<_}
 use native.Mathlib.Nat.{mod-lt, div-lt-iff-lt-mul}
 use native.Mathlib.Omega.{arith}
-use Rattle.finite.specs.Search.{bit, numberOf}
+use Rattle.finite.specs.Search.{bit}
 use Rattle.boxcode.specs.Code.{Code, Formed, cellNumber}
 use Rattle.boxcode.specs.Syndrome.{Cells, SameCells}
 use Rattle.boxcode.specs.Check.{Bits, checkNumber, checkAt, checkIndex, dataOrder, dataSize, rank, dataCell, fill, dataOf}
 use Rattle.finite.proofs.Truth.{Truth, is-true, is-false, true-or-false}
-use Rattle.finite.proofs.Digits.{bit-number}
 use Rattle.boxcode.proofs.Check.{check-row, check-column, number-row, number-column, number-on, number-cell, check-here, check-found, check-index, data-below, data-free, data-rank, rank-below, rank-data}
 
 -- what a set of cells has in check cell k
@@ -83,9 +81,3 @@ module _ (c : Code) (F : Formed c) where
       ap (λ (t : ℕ). cond (checkAt c t) (bit y (checkIndex c t)) (x (rank c (dataOrder c t)))) (number-cell c (dataCell c d))
       ∙ ap (λ (b : Bool). cond b (bit y (checkIndex c (dataCell c d))) (x (rank c (dataOrder c (dataCell c d))))) (data-free c F d l)
       ∙ ap x (data-rank c F d l)
-
-  pub fill-back : (s : Cells) → SameCells c s (fill c (dataOf c s) (numberOf (c .rv + c .rh) (checkCell c s)))
-  fill-back s =
-      let y = numberOf (c .rv + c .rh) (checkCell c s) in
-      same-cells s (fill c (dataOf c s) y) (λ k l. sym (fill-check (dataOf c s) y k l ∙ bit-number (c .rv + c .rh) (checkCell c s) k l))
-      (λ d l. sym (data-fill (dataOf c s) y d l))

@@ -3,7 +3,7 @@
 --   laid, laid-at   the cells of a pattern on the strip at a column
 --   laid-inside, laid-burst   a pattern in a window, laid on a strip of the sheet, is a burst
 --   laid-pattern, laid-back   the pattern of a laid pattern; a burst is its pattern, laid
---   laid-row, laid-column     the two sums of a laid pattern: the first does not depend on the strip
+--   laid-row                  the V sum of a laid pattern does not depend on the strip
 --   none-found      where no window has a pattern with the V sum, there is no burst
 --   strip-found     a strip on which a pattern has the H sum gives a burst with both sums
 --   pattern-only, found-strip   under separation one pattern with the V sum decides: only its strips need be tried
@@ -12,7 +12,7 @@
 use mathlib.Core.Path.{_≡_, sym, ap, ap₂, _∙_}
 use mathlib.Core.Bool.{Bool, true, false, _&&_}
 use Prim.Native.Nat.{ℕ, _+_, _*_, _/_, _%_, _≤_, _<_}
-use native.Mathlib.Nat.{mod-lt, div-lt-iff-lt-mul, div-add-mod'}
+use native.Mathlib.Nat.{mod-lt, div-add-mod'}
 use native.Mathlib.Omega.{arith}
 use lib.Arith.{digits-lt, digits-div}
 use Rattle.gf2.specs.Xor.{pick}
@@ -20,13 +20,12 @@ use Rattle.gf2.specs.Sum.{chosenSum}
 use Rattle.gf2.proofs.Sum.{sum-equal}
 use Rattle.finite.specs.Search.{within, place}
 use Rattle.boxcode.specs.Code.{Code, Formed}
-use Rattle.boxcode.specs.Condition.{stripEntry}
 use Rattle.boxcode.specs.Syndrome.{Cells, rowSyndrome, columnSyndrome, SameCells}
 use Rattle.boxcode.specs.Burst.{Inside, Burst, hasBurst, burstFor}
 use Rattle.finite.proofs.Truth.{same-truth, not-true, and-left, and-right, and-both, within-from, within-to, in-within}
 use Rattle.finite.proofs.Digits.{place-from, place-to, place-mod, place-is}
 use Rattle.boxcode.proofs.Syndrome.{column-cells}
-use Rattle.boxcode.proofs.Pattern.{InWindow, pattern-window, burst-row, patternOf, memberCell, pattern-at, row-pattern, column-members}
+use Rattle.boxcode.proofs.Pattern.{InWindow, pattern-window, burst-row, patternOf, pattern-at, row-pattern}
 use Rattle.boxcode.proofs.Separated.{Separated}
 use Rattle.boxcode.proofs.Trial.{Found, found}
 
@@ -100,16 +99,6 @@ module _ (c : Code) (F : Formed c) where
         row-pattern c F top a rows columns (laid c p a) (laid-inside top a p w)
         ∙ sum-equal (c .n1 * c .b2) (λ k. pick (patternOf c a (laid c p a) k) (c .rowEntry k)) (λ k. pick (p k) (c .rowEntry k))
         (λ k l. ap (λ (b : Bool). pick b (c .rowEntry k)) (laid-pattern p a k))
-
-    -- member x is the position of its row and remainder
-    pub laid-column : (a : ℕ) → a + c .b2 ≤ c .n2
-        → columnSyndrome c (laid c p a) ≡ chosenSum (c .b2 * c .b1) (λ x. p (place (c .b1) top (x % c .b1) * c .b2 + x / c .b1)) (stripEntry c a)
-    unfolding memberCell
-    laid-column a columns =
-        column-members c F top a rows columns (laid c p a) (laid-inside top a p w)
-        ∙ sum-equal (c .b2 * c .b1) (λ x. pick (memberCell c top a (laid c p a) x) (stripEntry c a x))
-        (λ x. pick (p (place (c .b1) top (x % c .b1) * c .b2 + x / c .b1)) (stripEntry c a x))
-        (λ x l. ap (λ (b : Bool). pick b (stripEntry c a x)) (laid-at p a (place (c .b1) top (x % c .b1)) (x / c .b1) (div-lt-iff-lt-mul (F .b1-pos) .1 l)))
 
     -- a strip on which the pattern has the H sum gives the burst
     pub strip-found : (a h : ℕ) → a + c .b2 ≤ c .n2 → columnSyndrome c (laid c p a) ≡ h

@@ -9,7 +9,7 @@
 --   Writable         writing is possible: the written sheet belongs, and a belonging sheet is known by its data
 --   writable         a code that meets the conditions is writable
 --   written-only     the written sheet is the only sheet that belongs and holds its data
---   written-back, written-equal   writing what was read gives the sheet back; equal data give the same sheet
+--   written-back              writing what was read gives the sheet back
 --
 -- Assumes nothing.
 use mathlib.Core.Path.{_≡_, refl, sym, ap, ap₂, _∙_}
@@ -172,6 +172,3 @@ written-only c F W x s b same = W .only s (written c x) b (W .belongs x) (λ d l
 -- writing what was read gives the sheet back, and equal data give the same sheet
 pub written-back : (c : Code) → Formed c → Writable c → (s : Cells) → Belongs c s → SameCells c s (written c (dataOf c s))
 written-back c F W s b = written-only c F W (dataOf c s) s b (λ d l. refl)
-
-pub written-equal : (c : Code) → Formed c → Writable c → (x x' : Bits) → ((d : ℕ) → d < dataSize c → x d ≡ x' d) → SameCells c (written c x) (written c x')
-written-equal c F W x x' same = written-only c F W x' (written c x) (W .belongs x) (λ d l. written-data c F x d l ∙ same d l)

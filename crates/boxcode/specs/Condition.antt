@@ -4,7 +4,7 @@
 --   columnMember      the member (remainder x / b1, r = x % b1) stands on different columns in two strips (01: b2 consecutive needles)
 --   columnDifference  the exclusive-or of the two H entries of that member
 --   Conditions        the conditions on courses, needles and check cells, as 01 words them
---   rowPairFree, columnPairFree, checksFree   the same for a pair and for the check cells, as computed
+--   rowPairFree, columnPairFree   the same for a pair, as computed
 use Prim.Native.Nat.{ℕ, _+_, _*_, _/_, _%_, _≤_, _<_}
 use mathlib.Core.Bool.{Bool, true, _||_, not}
 use lib.Dec.{eqb}
@@ -43,6 +43,3 @@ rowPairFree c i i' = free (c .n1 * c .b2) (rowMember c i i') (c .rowEntry)
 
 unfoldable pub columnPairFree : Code → ℕ → ℕ → Bool
 columnPairFree c a a' = free (c .b2 * c .b1) (columnMember c a a') (columnDifference c a a')
-
-unfoldable pub checksFree : Code → Bool
-checksFree c = free (c .rv + c .rh) everyone (checkJoint c)

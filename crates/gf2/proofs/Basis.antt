@@ -4,7 +4,6 @@
 --   basis-reduces    a number is spanned exactly where it reduces to 0
 --   basis-inserted   a vector that does not reduce to 0, put in
 --   basis-extended   `extended` takes as many vectors as `takenFrom` says, and is a basis with these
---   extended-free    all are taken exactly where they are free
 --
 -- Assumes nothing.
 use mathlib.Core.Path.{_≡_, refl, sym, ap, _∙_}
@@ -19,7 +18,7 @@ use borrow.Author.Tests.{eqb-true, eqb-false, eq-eqb}
 use lib.Dec.{eqb}
 use lib.ListN.{length, getD, take, drop, set, length-set, replicate, length-replicate, getD-replicate}
 use lib.Seq.{getD-set-same, getD-set-other, set-split, split-at}
-use Rattle.gf2.specs.Vectors.{spans, takenFrom, freeFrom}
+use Rattle.gf2.specs.Vectors.{spans, takenFrom}
 use Rattle.gf2.specs.Basis.{emptyWords, top, lowered, reduced, inserted, extendedFrom, extended, Below, Word, BasisOf}
 use Rattle.gf2.specs.declared.Extended.{Extended}
 use Rattle.finite.proofs.Truth.{same-truth}
@@ -146,7 +145,3 @@ basis-extended ms B h = from-extends ms 0 B h
 
 pub extended-taken : (ms : List ℕ) {vs b : List ℕ} → BasisOf vs b → Below 64 ms → extended b ms .taken ≡ takenFrom vs ms
 extended-taken ms B h = omega (arith, basis-extended ms B h .count)
-
-pub extended-free : (ms : List ℕ) {vs b : List ℕ} → BasisOf vs b → Below 64 ms → eqb (extended b ms .taken) (length ms) ≡ freeFrom vs ms
-unfolding freeFrom
-extended-free ms B h = ap (λ (n : ℕ). eqb n (length ms)) (extended-taken ms B h)

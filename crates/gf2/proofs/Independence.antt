@@ -2,13 +2,13 @@
 --
 --   spanned-chosen    a spanned number is the sum of a choice of members
 --   chosen-spanned    the sum of a choice of members is spanned
---   spanned-zero, spanned-xor      0 is spanned, and so is the exclusive-or of two spanned numbers
+--   spanned-zero                   0 is spanned
 --   spanned-equal, free-equal      equal members with equal values give the same
 --   free-independent, independent-free    `free` is independence
 --
 -- Assumes nothing.
 use mathlib.Core.Path.{_≡_, refl, sym, ap, ap₂, _∙_}
-use mathlib.Core.Bool.{Bool, true, false, _&&_, _||_, not, cond, xor}
+use mathlib.Core.Bool.{Bool, true, false, _&&_, _||_, not, cond}
 use mathlib.Core.Logic.{⊎-elim}
 use Prim.Native.Nat.{ℕ, zero, suc, _<_}
 use native.Mathlib.Nat.{lt-suc-self}
@@ -21,7 +21,7 @@ use Rattle.gf2.specs.Sum.{xorSum, chosenSum}
 use Rattle.gf2.specs.Independence.{Within, Independent, spanned, free}
 use Rattle.finite.proofs.Truth.{never, both, either, or-left, or-right, not-true}
 use Rattle.gf2.proofs.Xor.{xor-zero-right, xor-self, xor-back, xor-cancel}
-use Rattle.gf2.proofs.Sum.{sum-none, sum-next, sum-equal, chosen-differ}
+use Rattle.gf2.proofs.Sum.{sum-none, sum-next, sum-equal}
 
 -- the choice m, with t at the place n
 placed : (ℕ → Bool) → ℕ → Bool → ℕ → Bool
@@ -97,24 +97,6 @@ pub spanned-zero : (n : ℕ) (member : ℕ → Bool) (f : ℕ → ℕ) → spann
 unfolding spanned
 spanned-zero zero member f = refl
 spanned-zero (suc n) member f = or-left (spanned n member f 0) (member n && spanned n member f (0 ⊕ f n)) (spanned-zero n member f)
-
-differ-within : (s t member : ℕ → Bool) → Within s member → Within t member → Within (λ k. xor (s k) (t k)) member
-unfolding xor
-differ-within s t member v w k e = go (s k) (t k) (v k) (w k) e
-  where
-    go : (a b : Bool) → (a ≡ true → member k ≡ true) → (b ≡ true → member k ≡ true) → xor a b ≡ true → member k ≡ true
-    go true b ha hb p = ha refl
-    go false true ha hb p = hb refl
-    go false false ha hb p = absurd (never false p refl)
-
-pub spanned-xor :
-    (n : ℕ) (member : ℕ → Bool) (f : ℕ → ℕ) (x y : ℕ) → spanned n member f x ≡ true → spanned n member f y ≡ true
-    → spanned n member f (x ⊕ y) ≡ true
-spanned-xor n member f x y p q =
-    let c = spanned-chosen n member f x p in
-    let d = spanned-chosen n member f y q in
-    chosen-spanned n member f (x ⊕ y) (λ k. xor (c .0 k) (d .0 k)) (differ-within (c .0) (d .0) member (c .1) (d .1))
-    (chosen-differ n (c .0) (d .0) f ∙ ap₂ _⊕_ (c .2) (d .2))
 
 pub spanned-equal :
     (n : ℕ) (member member′ : ℕ → Bool) (f f′ : ℕ → ℕ) → ((k : ℕ) → k < n → member k ≡ member′ k)

@@ -1,6 +1,6 @@
 -- Laws of `reduced`: what is left of a number when words of a list are taken off.
 --
---   top-place, top-is    the place of the leading digit
+--   top-place            the place of the leading digit
 --   reduced-more         where the word at the leading digit makes the number smaller, it is taken off
 --   reduced-done         where it does not, the number is left
 --   reduced-stuck        of what is left, no word can be taken off
@@ -13,13 +13,11 @@ use mathlib.Core.Bool.{Bool, true, false, cond}
 use mathlib.Core.List.{List, [], _∷_}
 use Prim.Native.Nat.{ℕ, zero, suc, _-_, _^_, _≤_, _<_}
 use native.Mathlib.Nat.{le-refl}
-use native.Mathlib.Decide.{decLt}
 use native.Mathlib.Omega.{arith}
 use borrow.Author.Tests.{ltb-true, ltb-false, lt-ltb, le-ltb}
 use lib.Count.{leadingZeros, leading-top}
 use lib.Dec.{ltb}
 use lib.ListN.{getD}
-use lib.Pow.{pow-mono}
 use Rattle.gf2.specs.Xor.{_⊕_}
 use Rattle.gf2.specs.Vectors.{spans}
 use Rattle.gf2.specs.Basis.{top, lowered, settled, reduced}
@@ -41,15 +39,6 @@ top-place v p h =
 -- 63 - leadingZeros does not wrap
 pub top-fits : (v : ℕ) → 0 < v → v < 2 ^ 64 → leadingZeros 64 v ≤ 63
 top-fits v p h = let t = leading-top 64 v p h in omega (arith, t .1)
-
--- a number has one leading digit
-pub top-is : (v j k : ℕ) → Place v j → Place v k → j ≡ k
-top-is v j k a b = go (decLt j k) (decLt k j)
-  where
-    go : Dec (j < k) → Dec (k < j) → j ≡ k
-    go (yes l) d = absurd (omega (arith, pow-mono l, a .high, b .low))
-    go (no l) (yes u) = absurd (omega (arith, pow-mono u, a .low, b .high))
-    go (no l) (no u) = omega arith
 
 -- enough steps are as good as more
 settled-enough : (f g : ℕ) (b : List ℕ) (v : ℕ) → v ≤ f → v ≤ g → settled f b v ≡ settled g b v

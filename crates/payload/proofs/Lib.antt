@@ -3,4 +3,3 @@ pub mod Size
 pub mod Order
 pub mod Stand
 pub mod Progress
-pub mod Checks

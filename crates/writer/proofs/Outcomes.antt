@@ -1,32 +1,24 @@
 -- The outcome of writing, and the written sheet by its bytes.
 --
---   write-accepted, write-refused   the outcome where the checks pass, and where one fails
+--   write-refused                   the outcome where a check fails
 --   written-form, written-cell      the written sheet is of the right form; its cells
---   written-holds, written-belongs  it holds the data in the cells that are not check cells, and belongs to the plan
---   written-one                     and it is the only sheet that does
+--   written-belongs                 it belongs to the plan
 --
 -- Assumes nothing.
-use mathlib.Core.Path.{_≡_, sym, _∙_}
+use mathlib.Core.Path.{_≡_, sym}
 use mathlib.Core.List.{List}
 use Prim.Native.Nat.{ℕ, _<_}
 use borrow.Author.Tests.{eq-eqb, ne-eqb}
 use Rattle.layout.specs.Cells.{cellOf, RightForm}
-use Rattle.layout.proofs.Form.{bytes-form, bytes-cell, same-bytes}
+use Rattle.layout.proofs.Form.{bytes-form, bytes-cell}
 use Rattle.boxcode.specs.Syndrome.{Belongs}
-use Rattle.boxcode.specs.Check.{dataSize, written, dataOf}
+use Rattle.boxcode.specs.Check.{dataSize, written}
 use Rattle.boxcode.proofs.Syndrome.{belongs-cells}
-use Rattle.boxcode.proofs.Fill.{data-cells}
 use Rattle.boxcode.proofs.Theorems as code
-use Rattle.plan.specs.Verdict.{accepted}
 use Rattle.plan.specs.Bytes.{codeOf}
 use Rattle.accept.specs.Verdict.{Accepted}
-use Rattle.buffers.specs.Buffers.{writeChecks, Writes}
-use Rattle.buffers.proofs.Passing.{writes-pass}
+use Rattle.buffers.specs.Buffers.{writeChecks}
 use Rattle.writer.specs.Write.{dataBits, writtenBytes, outcome, write}
-
-pub write-accepted : (plan bits sheet : List ℕ) → Writes plan bits sheet → write plan bits sheet ≡ outcome accepted (writtenBytes plan bits)
-unfolding write
-write-accepted plan bits sheet w = rw (writes-pass plan bits sheet w)
 
 pub write-refused : (plan bits sheet : List ℕ) → (writeChecks plan bits sheet .number ≡ 0 → ⊥) → write plan bits sheet ≡ outcome (writeChecks plan bits sheet) sheet
 unfolding write
@@ -48,22 +40,7 @@ module _ (plan bits : List ℕ) where
   written-cell = bytes-cell (codeOf plan .n1) (codeOf plan .n2) (written (codeOf plan) (dataBits (dataSize (codeOf plan)) bits))
 
   module _ (A : Accepted plan) where
-    pub written-holds : (d : ℕ) → d < dataSize (codeOf plan)
-        → dataOf (codeOf plan) (cellOf (codeOf plan .n2) (writtenBytes plan bits)) d ≡ dataBits (dataSize (codeOf plan)) bits d
-    written-holds d l =
-        data-cells (codeOf plan) (A .formed) (cellOf (codeOf plan .n2) (writtenBytes plan bits)) (written (codeOf plan) (dataBits (dataSize (codeOf plan)) bits)) written-cell d l
-        ∙ code.written-data (codeOf plan) (A .formed) (dataBits (dataSize (codeOf plan)) bits) d l
-
     pub written-belongs : Belongs (codeOf plan) (cellOf (codeOf plan .n2) (writtenBytes plan bits))
     written-belongs =
         belongs-cells (codeOf plan) (written (codeOf plan) (dataBits (dataSize (codeOf plan)) bits)) (cellOf (codeOf plan .n2) (writtenBytes plan bits))
         (λ i j li lj. sym (written-cell i j li lj)) (code.written-belongs (codeOf plan) (A .formed) (A .conditions) (dataBits (dataSize (codeOf plan)) bits))
-
-    pub written-one : (s : List ℕ) → RightForm (codeOf plan .n1) (codeOf plan .n2) s → Belongs (codeOf plan) (cellOf (codeOf plan .n2) s)
-        → ((d : ℕ) → d < dataSize (codeOf plan) → dataOf (codeOf plan) (cellOf (codeOf plan .n2) s) d ≡ dataBits (dataSize (codeOf plan)) bits d)
-        → s ≡ writtenBytes plan bits
-    written-one s f b same =
-        same-bytes (codeOf plan .n1) (codeOf plan .n2) s (writtenBytes plan bits) f written-form
-        (λ i j li lj.
-        code.written-only (codeOf plan) (A .formed) (A .conditions) (dataBits (dataSize (codeOf plan)) bits) (cellOf (codeOf plan .n2) s) b same i j li lj
-        ∙ sym (written-cell i j li lj))
