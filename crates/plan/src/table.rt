@@ -1,8 +1,8 @@
 // The two tables of a plan, and the column table unpacked once into words.
-ghost use Prim.Native.Nat.{_+_, _*_, _<_};
-ghost use Rattle.layout.specs.Number.{Number32};
+ghost use Prim.Native.Nat.{_*_, _<_};
 ghost use Rattle.plan.specs.Header.{Framed};
-ghost use Rattle.plan.specs.Table.{start, size, Unpacked};
+ghost use Rattle.plan.specs.Bytes.{Weight};
+ghost use Rattle.plan.specs.Table.{entries, entryOf, Unpacked};
 use crate::entry::column_entry;
 use crate::entry::row_entry;
 use crate::header::Header;
@@ -16,8 +16,8 @@ pub enum Table {
 // The entry at a position of a table.
 pub fn entry(plan: &[u8], h: Header, t: Table, k: usize) -> u64
     requires { ⌜ Framed (now plan) h ⌝ }
-    requires { ⌜ k < size h t ⌝ }
-    ensures { λ r. ⌜ Number32 (now (plan .entry)) (start h t + 4 * k) r ⌝ }
+    requires { ⌜ k < entries h t ⌝ }
+    ensures { λ r. ⌜ Weight (entryOf (now (plan .entry)) h t k) r ⌝ }
 {
     match t {
         Table::Rows => row_entry(plan, h, k),

@@ -16,10 +16,10 @@ column-entry-requires : tie.Need-column-entry-requires
 column-entry-requires c κs = (c .before .before .before .pre .0, rw (c .enum-told2 .given .1) at (c .before .before .before .pre .1))
 
 returns : tie.Need-returns
-returns c = rw (c .before .enum-told .given .1) (c .row-entry .ensures)
+returns c = rw (c .before .enum-told .given .1) record { value = c .row-entry .ensures .value; below = c .row-entry .ensures .below }
 
 returns-2 : tie.Need-returns-2
-returns-2 c = rw (c .before .enum-told2 .given .1) (c .column-entry .ensures)
+returns-2 c = rw (c .before .enum-told2 .given .1) record { value = c .column-entry .ensures .value; below = c .column-entry .ensures .below }
 
 pub entry-spec : {M : Type 1} → statement M
 entry-spec =
