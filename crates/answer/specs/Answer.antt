@@ -5,7 +5,9 @@
 --   InRange     each field fits its bits
 --   packed      the fields one above the other, the number lowest
 --   numberIn, pIn, qIn, cellsIn, topIn, leftIn, heightIn, widthIn   a field of an answer
-use Prim.Native.Nat.{ℕ, _+_, _*_, _/_, _%_, _<_}
+--   Carries     each field, taken out of an answer, is that of the fields given; bit 63 of the answer is 0
+use mathlib.Core.Path.{_≡_}
+use Prim.Native.Nat.{ℕ, _+_, _*_, _/_, _%_, _^_, _<_}
 use Rattle.answer.specs.declared.Answer.{Answer}
 
 pub record Fields : Type 0 where
@@ -67,3 +69,14 @@ heightIn a = a / 144115188075855872 % 8
 
 unfoldable pub widthIn : ℕ → ℕ
 widthIn a = a / 1152921504606846976 % 8
+
+pub record Carries (a : ℕ) (f : Fields) : Type 0 where
+  pub number : numberIn a ≡ f .number
+  pub p : pIn a ≡ f .p
+  pub q : qIn a ≡ f .q
+  pub cells : cellsIn a ≡ f .cells
+  pub top : topIn a ≡ f .top
+  pub left : leftIn a ≡ f .left
+  pub height : heightIn a ≡ f .height
+  pub width : widthIn a ≡ f .width
+  pub below : a < 2 ^ 63

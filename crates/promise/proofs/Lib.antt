@@ -2,3 +2,4 @@
 pub mod Corrupted
 pub mod Reading
 pub mod Promise
+pub mod Answer

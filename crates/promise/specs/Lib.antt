@@ -1,2 +1,3 @@
 -- What the three calls promise together.
 pub mod Promise
+pub mod Answer

@@ -3,6 +3,7 @@
 --   write-fits    number and places of writing
 --   read-fits     number and places of reading
 --   report-fits   the reader's five numbers
+--   plan-range, write-range, read-range   the fields of the answer of each call
 --
 -- Assumes nothing.
 use mathlib.Core.Path.{_≡_, refl}
@@ -31,6 +32,9 @@ use Rattle.mend.specs.declared.report.Report.{Report}
 use Rattle.mend.specs.Report.{noReport, reportAs}
 use Rattle.reader.proofs.Cases.{zero-reads}
 use Rattle.reader.specs.Read.{readVerdict, reportRead, taken, refused, readOutcome}
+use Rattle.writer.specs.Write.{write}
+use Rattle.answer.specs.Answer.{InRange}
+use Rattle.sheet.specs.Calls.{verdictFields, reportFields}
 
 length-fits : (n : ℕ) (s : List ℕ) (size : ℕ) → n < 32 → Fits (lengthVerdict n s size)
 unfolding lengthVerdict
@@ -126,3 +130,30 @@ report-fits plan sheet bits = go (eqb (readVerdict plan sheet bits .number) 0) r
         let z = zero-reads plan sheet bits (eqb-true (readVerdict plan sheet bits .number) 0 e) in
         burst-fits (codeOf plan) (z .0 .accepted .formed) sheet (z .1)
     go false e = none-fits
+
+-- ---- the fields of an answer
+
+fields-range : (v : Verdict) (r : Report) → Fits v → FiveFit r → InRange (reportFields v r)
+fields-range v r f g = record {
+  number-fits = f .number-fits;
+  p-fits = f .p-fits;
+  q-fits = f .q-fits;
+  cells-fits = g .cells-fits;
+  top-fits = g .top-fits;
+  left-fits = g .left-fits;
+  height-fits = g .height-fits;
+  width-fits = g .width-fits;
+}
+
+pub plan-range : (plan : List ℕ) → InRange (verdictFields (planVerdict plan))
+plan-range plan = fields-range (planVerdict plan) (reportAs noReport) (plan-fits plan) none-fits
+
+pub write-range : (plan bits sheet : List ℕ) → InRange (verdictFields (write plan bits sheet .verdict))
+unfolding write
+write-range plan bits sheet = fields-range (writeChecks plan bits sheet) (reportAs noReport) (write-fits plan bits sheet) none-fits
+
+pub read-range : (plan sheet bits : List ℕ)
+    → InRange (reportFields (readOutcome plan sheet bits .verdict) (readOutcome plan sheet bits .report))
+read-range plan sheet bits =
+    let o = readOutcome plan sheet bits in
+    fields-range (o .verdict) (o .report) (read-fits plan sheet bits) (report-fits plan sheet bits)

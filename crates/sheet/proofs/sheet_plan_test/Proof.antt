@@ -1,7 +1,6 @@
 -- `sheet::sheet_plan_test` meets its contract: the number and places fit their fields. Assumes nothing.
-use native.Mathlib.Omega.{arith}
-use Rattle.accept.proofs.Range.{Fits, plan-fits}
 use Rattle.sheet.specs.Calls.{planAnswer}
+use Rattle.sheet.proofs.Ranges.{plan-range}
 use borrow.Author.Needs.{needs}
 use Rattle.sheet.proofs.sheet_plan_test.Statement.{statement}
 use Rattle.sheet.proofs.sheet_plan_test.Tie as tie
@@ -10,18 +9,7 @@ test-requires : tie.Need-test-requires
 test-requires c κs = search needs
 
 pack-requires : tie.Need-pack-requires
-pack-requires c κs =
-    let f : Fits (c .test .result) = rw (c .test .ensures) (plan-fits (c .before .before .args .plan .now)) in
-    record {
-      number-fits = omega arith;
-      p-fits = omega arith;
-      q-fits = omega arith;
-      cells-fits = omega arith;
-      top-fits = omega arith;
-      left-fits = omega arith;
-      height-fits = omega arith;
-      width-fits = omega arith;
-    }
+pack-requires c κs = rw (c .test .ensures) (plan-range (c .before .before .args .plan .now))
 
 returns : tie.Need-returns
 unfolding planAnswer

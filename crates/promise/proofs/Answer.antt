@@ -1,0 +1,26 @@
+-- The answers of the calls, taken apart: one declaration for each theorem of specs/Answer.antt, of that type.
+--
+--   plan-carries, write-carries, read-carries
+--
+-- Assumes nothing.
+use Rattle.answer.proofs.Fields.{packed-carries}
+use Rattle.accept.specs.Verdict.{planVerdict}
+use Rattle.writer.specs.Write.{write}
+use Rattle.reader.specs.Read.{readOutcome}
+use Rattle.sheet.specs.Calls.{verdictFields, reportFields, planAnswer, writeCall, readCall}
+use Rattle.sheet.proofs.Ranges.{plan-range, write-range, read-range}
+use Rattle.promise.specs.Answer as promise
+
+pub plan-carries : promise.PlanCarries
+unfolding planAnswer
+plan-carries plan = packed-carries (verdictFields (planVerdict plan)) (plan-range plan)
+
+pub write-carries : promise.WriteCarries
+unfolding writeCall
+write-carries plan bits sheet = packed-carries (verdictFields (write plan bits sheet .verdict)) (write-range plan bits sheet)
+
+pub read-carries : promise.ReadCarries
+unfolding readCall
+read-carries plan sheet bits =
+    let o = readOutcome plan sheet bits in
+    packed-carries (reportFields (o .verdict) (o .report)) (read-range plan sheet bits)

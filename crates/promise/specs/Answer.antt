@@ -1,0 +1,24 @@
+-- The 64 bits that a host sees: from the answer of each call, for every input, good or bad, each getter takes out its field.
+-- The getters are the shifts and masks of docs/ANSWER.md. Each theorem is proved under its name in proofs/Answer.antt.
+--
+--   PlanCarries    the test of a plan: the number and the places of its verdict, and five zeros
+--   WriteCarries   writing: likewise
+--   ReadCarries    reading: the number, the places and the reader's five numbers
+use Prim.Native.Nat.{ℕ}
+use mathlib.Core.List.{List}
+use Rattle.answer.specs.Answer.{Carries}
+use Rattle.accept.specs.Verdict.{planVerdict}
+use Rattle.writer.specs.Write.{write}
+use Rattle.reader.specs.Read.{readOutcome}
+use Rattle.sheet.specs.Calls.{verdictFields, reportFields, planAnswer, writeCall, readCall}
+
+abbrev pub PlanCarries : Type 0
+PlanCarries = (plan : List ℕ) → Carries (planAnswer plan) (verdictFields (planVerdict plan))
+
+abbrev pub WriteCarries : Type 0
+WriteCarries = (plan bits sheet : List ℕ)
+    → Carries (writeCall plan bits sheet .answer) (verdictFields (write plan bits sheet .verdict))
+
+abbrev pub ReadCarries : Type 0
+ReadCarries = (plan sheet bits : List ℕ)
+    → Carries (readCall plan sheet bits .answer) (reportFields (readOutcome plan sheet bits .verdict) (readOutcome plan sheet bits .report))
