@@ -9,7 +9,6 @@
 --   Writable         writing is possible: the written sheet belongs, and a belonging sheet is known by its data
 --   writable         a code that meets the conditions is writable
 --   written-only     the written sheet is the only sheet that belongs and holds its data
---   written-back              writing what was read gives the sheet back
 --
 -- Assumes nothing.
 use mathlib.Core.Path.{_≡_, refl, sym, ap, ap₂, _∙_}
@@ -168,7 +167,3 @@ writable c F K = record { belongs = written-belongs c F K; only = belongs-only c
 pub written-only : (c : Code) → Formed c → Writable c → (x : Bits) (s : Cells) → Belongs c s → ((d : ℕ) → d < dataSize c → dataOf c s d ≡ x d)
     → SameCells c s (written c x)
 written-only c F W x s b same = W .only s (written c x) b (W .belongs x) (λ d l. same d l ∙ sym (written-data c F x d l))
-
--- writing what was read gives the sheet back, and equal data give the same sheet
-pub written-back : (c : Code) → Formed c → Writable c → (s : Cells) → Belongs c s → SameCells c s (written c (dataOf c s))
-written-back c F W s b = written-only c F W (dataOf c s) s b (λ d l. refl)

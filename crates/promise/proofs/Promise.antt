@@ -10,16 +10,14 @@ use mathlib.Core.Logic.{_⊎_, inl, inr}
 use mathlib.Core.List.{List}
 use Prim.Native.Nat.{ℕ}
 use native.Mathlib.Omega.{arith}
-use Rattle.layout.proofs.Form.{same-bytes, bytes-form, bytes-cell, row-sheet}
+use Rattle.layout.proofs.Form.{same-bytes, row-sheet}
 use Rattle.boxcode.specs.Code.{Code}
-use Rattle.boxcode.specs.Syndrome.{SameCells}
 use Rattle.boxcode.specs.Check.{dataSize, written}
 use Rattle.boxcode.specs.Reader.{Report, reportOf}
-use Rattle.boxcode.proofs.Syndrome.{belongs-cells}
 use Rattle.boxcode.proofs.Burst.{burst-on, burst-none}
 use Rattle.boxcode.proofs.Fill.{data-cells}
 use Rattle.boxcode.proofs.Report.{nothing, report-inside, report-least, report-none}
-use Rattle.boxcode.proofs.Theorems.{at-most-one, written-belongs, written-data, written-only}
+use Rattle.boxcode.proofs.Theorems.{at-most-one, written-data, written-only}
 use Rattle.plan.specs.declared.verdict.Verdict.{Verdict}
 use Rattle.plan.specs.Verdict.{accepted}
 use Rattle.plan.specs.Bytes.{codeOf}
@@ -28,9 +26,10 @@ use Rattle.accept.proofs.Acceptance.{accepted-plan, plan-accepted}
 use Rattle.buffers.specs.Buffers.{writeChecks}
 use Rattle.buffers.proofs.Passing.{writes-pass}
 use Rattle.writer.specs.Write.{dataBits, writtenBytes, write}
+use Rattle.writer.proofs.Outcomes.{written-form, written-cell, written-belongs}
 use Rattle.reader.specs.Read.{Outcome, readOutcome}
 use Rattle.promise.specs.Promise as promise
-use Rattle.promise.specs.Promise.{DataFor, SheetFor, BufferFor, NoneFits, SomeFits, cellsOf, dataIn, corrupted, empty, readAs}
+use Rattle.promise.specs.Promise.{DataFor, BufferFor, NoneFits, SomeFits, cellsOf, dataIn, corrupted, empty, readAs}
 use Rattle.promise.proofs.Corrupted.{corrupted-form, corrupted-cell, corrupted-none, corrupted-back, fits-cells, data-bit, data-held}
 use Rattle.promise.proofs.Reading.{taken-as, refused-as, none-or-some}
 
@@ -54,28 +53,20 @@ module _ (plan : List ℕ) (A : Accepted plan) (bits : List ℕ) (right : DataFo
   abbrev x : ℕ → Bool
   x = dataBits (dataSize (codeOf plan)) bits
 
-  written-form : SheetFor plan (writtenBytes plan bits)
-  unfolding writtenBytes
-  written-form = bytes-form (c .n1) (c .n2) (written c x)
-
-  written-cell : SameCells c (cellsOf plan (writtenBytes plan bits)) (written c x)
-  unfolding writtenBytes
-  written-cell = bytes-cell (c .n1) (c .n2) (written c x)
-
   written-sheet : promise.Written plan bits
   written-sheet =
       let w = writtenBytes plan bits in
       record {
-        form = written-form;
-        belongs = belongs-cells c (written c x) (cellsOf plan w) (λ i j li lj. sym (written-cell i j li lj)) (written-belongs c (A .formed) (A .conditions) x);
+        form = written-form plan bits;
+        belongs = written-belongs plan bits A;
         holds = data-held plan w bits right
-            (λ d l. data-cells c (A .formed) (cellsOf plan w) (written c x) written-cell d l ∙ written-data c (A .formed) x d l);
+            (λ d l. data-cells c (A .formed) (cellsOf plan w) (written c x) (written-cell plan bits) d l ∙ written-data c (A .formed) x d l);
         only = λ sheet f b h.
-            same-bytes (c .n1) (c .n2) sheet w f written-form
+            same-bytes (c .n1) (c .n2) sheet w f (written-form plan bits)
             (λ i j li lj.
             written-only c (A .formed) (A .conditions) x (cellsOf plan sheet) b
             (λ d l. sym (data-bit plan sheet d l) ∙ ap (λ (s : List ℕ). dataBits (dataSize c) s d) h) i j li lj
-            ∙ sym (written-cell i j li lj));
+            ∙ sym (written-cell plan bits i j li lj));
       }
 
   -- data of the right form is as long as the data buffer

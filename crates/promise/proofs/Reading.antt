@@ -11,15 +11,14 @@ use mathlib.Core.Bool.{true, false, xor}
 use mathlib.Core.Logic.{_⊎_, inl, inr}
 use mathlib.Core.List.{List}
 use Prim.Native.Nat.{ℕ}
-use Rattle.finite.proofs.Truth.{Truth, is-true, is-false, true-or-false}
+use Rattle.finite.proofs.Truth.{Truth, is-true, is-false, true-or-false, clash, not-true}
 use Rattle.layout.proofs.Form.{bytes-equal}
 use Rattle.boxcode.specs.Code.{Code}
 use Rattle.boxcode.specs.Syndrome.{Cells, flip, SameCells}
 use Rattle.boxcode.specs.Check.{dataSize, dataOf}
 use Rattle.boxcode.specs.Reader.{mendable, change, mended, reportOf}
-use Rattle.boxcode.proofs.Condition.{separated}
 use Rattle.boxcode.proofs.Fill.{data-cells}
-use Rattle.boxcode.proofs.Reader.{fits-mendable, unmendable, none-fits, change-burst, change-fits, change-is}
+use Rattle.boxcode.proofs.Theorems.{mendable-iff, change-is}
 use Rattle.boxcode.proofs.Report.{report-cells}
 use Rattle.plan.specs.Verdict.{accepted, refusal, _orElse_}
 use Rattle.plan.specs.Bytes.{codeOf}
@@ -50,19 +49,21 @@ module _ (plan : List ℕ) (A : Accepted plan) (sheet old : List ℕ) (form : Sh
   reads-refused t = rw (checks, t)
 
   pub refused-as : NoneFits plan sheet → readOutcome plan sheet old ≡ refused (refusal 14 0 0) sheet old
-  refused-as h = reads-refused (none-fits c (A .formed) s (λ e B f. h e B (cells-fit plan sheet e f)))
+  refused-as h =
+      reads-refused
+      (not-true (mendable c s) (λ t. let w = mendable-iff c (A .formed) s .0 t in h (w .0) (w .1) (cells-fit plan sheet (w .0) (w .2))))
 
   pub none-or-some : NoneFits plan sheet ⊎ SomeFits plan sheet
   none-or-some = go (true-or-false (mendable c s))
     where
       go : Truth (mendable c s) → NoneFits plan sheet ⊎ SomeFits plan sheet
-      go (is-true t) = inr (change c s, change-burst c (A .formed) s t, cells-fit plan sheet (change c s) (change-fits c (A .formed) s t))
-      go (is-false t) = inl (λ e B f. unmendable c (A .formed) s t e B (fits-cells plan sheet e f))
+      go (is-true t) = let w = mendable-iff c (A .formed) s .0 t in inr (w .0, w .1, cells-fit plan sheet (w .0) (w .2))
+      go (is-false t) = inl (λ e B f. clash (mendable-iff c (A .formed) s .1 (e, B, fits-cells plan sheet e f)) t)
 
   module _ (e : Cells) (B : BurstOn plan e) (f : FitsOn plan sheet e) where
     -- the burst that fits is the one that is found
     changed : (i j : ℕ) → change c s i j ≡ e i j
-    changed = change-is c (A .formed) s (separated c (A .formed) (A .conditions)) e B (fits-cells plan sheet e f)
+    changed = change-is c (A .formed) (A .conditions) s e B (fits-cells plan sheet e f)
 
     mended-cells : SameCells c (mended c s) (flip s e)
     unfolding mended
@@ -85,5 +86,5 @@ module _ (plan : List ℕ) (A : Accepted plan) (sheet old : List ℕ) (form : Sh
     pub taken-as : readOutcome plan sheet old ≡ readAs (reportOf c e) (corrupted plan sheet e) (dataIn plan (corrupted plan sheet e))
     unfolding reportRead
     taken-as =
-        reads-mended (fits-mendable c (A .formed) s e B (fits-cells plan sheet e f))
+        reads-mended (mendable-iff c (A .formed) s .1 (e, B, fits-cells plan sheet e f))
         ∙ λ i. record { verdict = accepted; report = reportAs (same-report i); sheet = same-sheet i; bits = same-bits i }
