@@ -2,7 +2,7 @@
 --
 --   order-below, order-twice     the two laws of the data's order; no other fact of it is used
 --   number-row, number-column, number-on, number-cell    a cell and its number
---   check-listed                 the check cells are different cells of the sheet
+--   check-rise, check-listed     the check cells rise in sheet order, and are different cells of the sheet
 --   check-row, check-column      a check cell from its number
 --   check-here, check-found, check-index   which numbers are check cells, and their places in the list
 --   dataAt                       a place of the data's order holds data
@@ -61,10 +61,10 @@ number-cell c t = div-add-mod' t (c .n2)
 -- ---- check cells
 
 module _ (c : Code) (F : Formed c) where
-  check-less : (k l : ℕ) → k < l → l < c .rv + c .rh → checkNumber c k < checkNumber c l
+  pub check-rise : (k l : ℕ) → k < l → l < c .rv + c .rh → checkNumber c k < checkNumber c l
   unfolding checkNumber
-  check-less k zero h b = absurd (omega arith)
-  check-less k (suc l) h b = go (ℕ-discrete k l) (check-less k l)
+  check-rise k zero h b = absurd (omega arith)
+  check-rise k (suc l) h b = go (ℕ-discrete k l) (check-rise k l)
     where
       go : Dec (k ≡ l) → (k < l → l < c .rv + c .rh → checkNumber c k < checkNumber c l) → checkNumber c k < checkNumber c (suc l)
       go (yes e) ih =
@@ -86,8 +86,8 @@ module _ (c : Code) (F : Formed c) where
       different k l lk ll e = go (decLt k l) (decLt l k)
         where
           go : Dec (k < l) → Dec (l < k) → k ≡ l
-          go (yes h) d = let q : checkNumber c k < checkNumber c l = check-less k l h ll in absurd (omega arith)
-          go (no h) (yes g) = let q : checkNumber c l < checkNumber c k = check-less l k g lk in absurd (omega arith)
+          go (yes h) d = let q : checkNumber c k < checkNumber c l = check-rise k l h ll in absurd (omega arith)
+          go (no h) (yes g) = let q : checkNumber c l < checkNumber c k = check-rise l k g lk in absurd (omega arith)
           go (no h) (no g) = omega arith
 
   pub check-row : (k : ℕ) → k < c .rv + c .rh → checkNumber c k / c .n2 ≡ c .checkRow k

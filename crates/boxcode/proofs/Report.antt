@@ -20,7 +20,7 @@ use Rattle.finite.specs.Search.{anyBelow, countBelow, firstOf, pastOf}
 use Rattle.boxcode.specs.Code.{Code, Formed}
 use Rattle.boxcode.specs.Syndrome.{Cells, SameCells}
 use Rattle.boxcode.specs.Burst.{Inside, Burst}
-use Rattle.boxcode.specs.Reader.{Report, cellsIn, inRow, inColumn, reportOf}
+use Rattle.boxcode.specs.Reader.{Report, cellCount, rowTouched, columnTouched, reportOf}
 use Rattle.finite.proofs.Truth.{Truth, is-true, is-false, true-or-false, clash, not-true}
 use Rattle.finite.proofs.Search.{any-found, any-here, any-none, none-any, any-equal, first-is, first-none, first-equal, past-le, past-above, past-last, past-none, past-equal}
 use Rattle.finite.proofs.Count.{count-equal, count-none, count-rise, count-split, count-run}
@@ -28,14 +28,14 @@ use Rattle.boxcode.proofs.Burst.{OnSheet}
 
 -- ---- the number of cells
 
-pub cells-equal : (n m : ℕ) (e e' : Cells) → ((i j : ℕ) → i < n → j < m → e i j ≡ e' i j) → cellsIn n m e ≡ cellsIn n m e'
-unfolding cellsIn
+pub cells-equal : (n m : ℕ) (e e' : Cells) → ((i j : ℕ) → i < n → j < m → e i j ≡ e' i j) → cellCount n m e ≡ cellCount n m e'
+unfolding cellCount
 cells-equal zero m e e' h = refl
 cells-equal (suc n) m e e' h =
     ap₂ _+_ (cells-equal n m e e' (λ i j li. h i j (omega arith))) (count-equal m (e n) (e' n) (λ j lj. h n j (lt-suc-self n) lj))
 
-pub cells-flat : (n m : ℕ) (e : Cells) → cellsIn n m e ≡ countBelow (n * m) (λ t. e (t / m) (t % m))
-unfolding cellsIn
+pub cells-flat : (n m : ℕ) (e : Cells) → cellCount n m e ≡ countBelow (n * m) (λ t. e (t / m) (t % m))
+unfolding cellCount
 cells-flat zero m e = sym (ap (λ (x : ℕ). countBelow x (λ t. e (t / m) (t % m))) (zero-mul m) ∙ count-none 0 (λ t. e (t / m) (t % m)) (λ k l. absurd (omega arith)))
 cells-flat (suc n) m e =
     ap₂ _+_ (cells-flat n m e) (count-equal m (e n) (λ j. e ((n * m + j) / m) ((n * m + j) % m)) (λ j l. sym (ap₂ e (digits-div n l) (digits-mod n l))))
@@ -43,16 +43,16 @@ cells-flat (suc n) m e =
 
 -- a set in a rectangle has at most so many cells: also by the rows counted so far
 box-rows : (top left height width : ℕ) (e : Cells) → Inside top left height width e → (n m : ℕ)
-    → (cellsIn n m e ≤ (n - top) * width) × (cellsIn n m e ≤ height * width)
-unfolding cellsIn
+    → (cellCount n m e ≤ (n - top) * width) × (cellCount n m e ≤ height * width)
+unfolding cellCount
 box-rows top left height width e on zero m = omega arith
 box-rows top left height width e on (suc n) m = go (true-or-false (anyBelow m (e n))) (box-rows top left height width e on n m)
   where
     row : countBelow m (e n) ≤ width
     row = count-run left width (e n) (λ j t. on .column-from n j t) (λ j t. on .column-to n j t) m .1
 
-    go : Truth (anyBelow m (e n)) → (cellsIn n m e ≤ (n - top) * width) × (cellsIn n m e ≤ height * width)
-        → (cellsIn n m e + countBelow m (e n) ≤ (suc n - top) * width) × (cellsIn n m e + countBelow m (e n) ≤ height * width)
+    go : Truth (anyBelow m (e n)) → (cellCount n m e ≤ (n - top) * width) × (cellCount n m e ≤ height * width)
+        → (cellCount n m e + countBelow m (e n) ≤ (suc n - top) * width) × (cellCount n m e + countBelow m (e n) ≤ height * width)
     go (is-true t) ih =
         let w = any-found m (e n) t in
         let f : top ≤ n = on .row-from n (w .0) (w .2) in
@@ -69,19 +69,19 @@ box-rows top left height width e on (suc n) m = go (true-or-false (anyBelow m (e
         let p : (n - top) * width ≤ (suc n - top) * width = mul-le-mul-right width k in
         omega arith
 
-pub box-count : (top left height width : ℕ) (e : Cells) → Inside top left height width e → (n m : ℕ) → cellsIn n m e ≤ height * width
+pub box-count : (top left height width : ℕ) (e : Cells) → Inside top left height width e → (n m : ℕ) → cellCount n m e ≤ height * width
 box-count top left height width e on n m = box-rows top left height width e on n m .1
 
-pub cells-some : (n m : ℕ) (e : Cells) (i j : ℕ) → i < n → j < m → e i j ≡ true → 0 < cellsIn n m e
+pub cells-some : (n m : ℕ) (e : Cells) (i j : ℕ) → i < n → j < m → e i j ≡ true → 0 < cellCount n m e
 cells-some n m e i j li lj t =
     let p : ℕ → Bool = λ t. e (t / m) (t % m) in
     let r : countBelow (i * m + j) p < countBelow (n * m) p =
     count-rise (i * m + j) (n * m) p (ap₂ e (digits-div i lj) (digits-mod i lj) ∙ t) (digits-lt li lj) in
-    let f : cellsIn n m e ≡ countBelow (n * m) p = cells-flat n m e in
+    let f : cellCount n m e ≡ countBelow (n * m) p = cells-flat n m e in
     omega arith
 
-pub cells-none : (n m : ℕ) (e : Cells) → ((i j : ℕ) → i < n → j < m → e i j ≡ false) → cellsIn n m e ≡ 0
-unfolding cellsIn
+pub cells-none : (n m : ℕ) (e : Cells) → ((i j : ℕ) → i < n → j < m → e i j ≡ false) → cellCount n m e ≡ 0
+unfolding cellCount
 cells-none zero m e h = refl
 cells-none (suc n) m e h = ap₂ _+_ (cells-none n m e (λ i j li. h i j (omega arith))) (count-none m (e n) (λ j lj. h n j (lt-suc-self n) lj))
 
@@ -162,82 +162,82 @@ pub record Small (c : Code) (r : Report) : Type 0 where
   pub columns-on : r .left + r .width ≤ c .n2
 
 module _ (c : Code) where
-  row-has : (e : Cells) (i j : ℕ) → j < c .n2 → e i j ≡ true → inRow c e i ≡ true
-  unfolding inRow
+  row-has : (e : Cells) (i j : ℕ) → j < c .n2 → e i j ≡ true → rowTouched c e i ≡ true
+  unfolding rowTouched
   row-has e i j l t = any-here (c .n2) (e i) j l t
 
-  column-has : (e : Cells) (i j : ℕ) → i < c .n1 → e i j ≡ true → inColumn c e j ≡ true
-  unfolding inColumn
+  column-has : (e : Cells) (i j : ℕ) → i < c .n1 → e i j ≡ true → columnTouched c e j ≡ true
+  unfolding columnTouched
   column-has e i j l t = any-here (c .n1) (λ i. e i j) i l t
 
-  has-row : (e : Cells) (i : ℕ) → inRow c e i ≡ true → (j : ℕ) × (j < c .n2) × (e i j ≡ true)
-  unfolding inRow
+  has-row : (e : Cells) (i : ℕ) → rowTouched c e i ≡ true → (j : ℕ) × (j < c .n2) × (e i j ≡ true)
+  unfolding rowTouched
   has-row e i t = any-found (c .n2) (e i) t
 
-  has-column : (e : Cells) (j : ℕ) → inColumn c e j ≡ true → (i : ℕ) × (i < c .n1) × (e i j ≡ true)
-  unfolding inColumn
+  has-column : (e : Cells) (j : ℕ) → columnTouched c e j ≡ true → (i : ℕ) × (i < c .n1) × (e i j ≡ true)
+  unfolding columnTouched
   has-column e j t = any-found (c .n1) (λ i. e i j) t
 
-  rows-equal : (e e' : Cells) → SameCells c e e' → (i : ℕ) → i < c .n1 → inRow c e i ≡ inRow c e' i
-  unfolding inRow
+  rows-equal : (e e' : Cells) → SameCells c e e' → (i : ℕ) → i < c .n1 → rowTouched c e i ≡ rowTouched c e' i
+  unfolding rowTouched
   rows-equal e e' h i l = any-equal (c .n2) (e i) (e' i) (λ j lj. h i j l lj)
 
-  columns-equal : (e e' : Cells) → SameCells c e e' → (j : ℕ) → j < c .n2 → inColumn c e j ≡ inColumn c e' j
-  unfolding inColumn
+  columns-equal : (e e' : Cells) → SameCells c e e' → (j : ℕ) → j < c .n2 → columnTouched c e j ≡ columnTouched c e' j
+  unfolding columnTouched
   columns-equal e e' h j l = any-equal (c .n1) (λ i. e i j) (λ i. e' i j) (λ i li. h i j li l)
 
   pub report-cells : (e e' : Cells) → SameCells c e e' → reportOf c e ≡ reportOf c e'
   unfolding reportOf
   report-cells e e' h = λ i. record {
     cells = cells-equal (c .n1) (c .n2) e e' h i;
-    top = first-equal (c .n1) (inRow c e) (inRow c e') (rows-equal e e' h) i;
-    left = first-equal (c .n2) (inColumn c e) (inColumn c e') (columns-equal e e' h) i;
-    height = past-equal (c .n1) (inRow c e) (inRow c e') (rows-equal e e' h) i - first-equal (c .n1) (inRow c e) (inRow c e') (rows-equal e e' h) i;
-    width = past-equal (c .n2) (inColumn c e) (inColumn c e') (columns-equal e e' h) i - first-equal (c .n2) (inColumn c e) (inColumn c e') (columns-equal e e' h) i;
+    top = first-equal (c .n1) (rowTouched c e) (rowTouched c e') (rows-equal e e' h) i;
+    left = first-equal (c .n2) (columnTouched c e) (columnTouched c e') (columns-equal e e' h) i;
+    height = past-equal (c .n1) (rowTouched c e) (rowTouched c e') (rows-equal e e' h) i - first-equal (c .n1) (rowTouched c e) (rowTouched c e') (rows-equal e e' h) i;
+    width = past-equal (c .n2) (columnTouched c e) (columnTouched c e') (columns-equal e e' h) i - first-equal (c .n2) (columnTouched c e) (columnTouched c e') (columns-equal e e' h) i;
   }
 
   pub report-inside : (e : Cells) → OnSheet c e → Inside (reportOf c e .top) (reportOf c e .left) (reportOf c e .height) (reportOf c e .width) e
   unfolding reportOf
   report-inside e on = record {
-    row-from = λ i j t. run-inside (c .n1) (inRow c e) i (on .rows i j t) (row-has e i j (on .columns i j t) t) .0;
-    row-to = λ i j t. run-inside (c .n1) (inRow c e) i (on .rows i j t) (row-has e i j (on .columns i j t) t) .1;
-    column-from = λ i j t. run-inside (c .n2) (inColumn c e) j (on .columns i j t) (column-has e i j (on .rows i j t) t) .0;
-    column-to = λ i j t. run-inside (c .n2) (inColumn c e) j (on .columns i j t) (column-has e i j (on .rows i j t) t) .1;
+    row-from = λ i j t. run-inside (c .n1) (rowTouched c e) i (on .rows i j t) (row-has e i j (on .columns i j t) t) .0;
+    row-to = λ i j t. run-inside (c .n1) (rowTouched c e) i (on .rows i j t) (row-has e i j (on .columns i j t) t) .1;
+    column-from = λ i j t. run-inside (c .n2) (columnTouched c e) j (on .columns i j t) (column-has e i j (on .rows i j t) t) .0;
+    column-to = λ i j t. run-inside (c .n2) (columnTouched c e) j (on .columns i j t) (column-has e i j (on .rows i j t) t) .1;
   }
 
   module _ (top left height width : ℕ) (e : Cells) (in-box : Inside top left height width e) where
-    from-row : (i : ℕ) → inRow c e i ≡ true → top ≤ i
+    from-row : (i : ℕ) → rowTouched c e i ≡ true → top ≤ i
     from-row i t = let w = has-row e i t in in-box .row-from i (w .0) (w .2)
 
-    to-row : (i : ℕ) → inRow c e i ≡ true → i < top + height
+    to-row : (i : ℕ) → rowTouched c e i ≡ true → i < top + height
     to-row i t = let w = has-row e i t in in-box .row-to i (w .0) (w .2)
 
-    from-column : (j : ℕ) → inColumn c e j ≡ true → left ≤ j
+    from-column : (j : ℕ) → columnTouched c e j ≡ true → left ≤ j
     from-column j t = let w = has-column e j t in in-box .column-from (w .0) j (w .2)
 
-    to-column : (j : ℕ) → inColumn c e j ≡ true → j < left + width
+    to-column : (j : ℕ) → columnTouched c e j ≡ true → j < left + width
     to-column j t = let w = has-column e j t in in-box .column-to (w .0) j (w .2)
 
     pub report-least : (i j : ℕ) → i < c .n1 → j < c .n2 → e i j ≡ true → Holds top left height width (reportOf c e)
     unfolding reportOf
     report-least i j li lj t =
-        let r = run-least (c .n1) (inRow c e) top height from-row to-row i li (row-has e i j lj t) in
-        let k = run-least (c .n2) (inColumn c e) left width from-column to-column j lj (column-has e i j li t) in
+        let r = run-least (c .n1) (rowTouched c e) top height from-row to-row i li (row-has e i j lj t) in
+        let k = run-least (c .n2) (columnTouched c e) left width from-column to-column j lj (column-has e i j li t) in
         record { above = r .0; under = r .1; before = k .0; past = k .1 }
 
   pub report-none : (e : Cells) → ((i j : ℕ) → i < c .n1 → j < c .n2 → e i j ≡ false) → reportOf c e ≡ nothing
   unfolding reportOf nothing
   report-none e h =
-      let r : anyBelow (c .n1) (inRow c e) ≡ false =
-      none-any (c .n1) (inRow c e) (λ i l. not-true (inRow c e i) (λ t. let w = has-row e i t in clash (w .2) (h i (w .0) l (w .1)))) in
-      let k : anyBelow (c .n2) (inColumn c e) ≡ false =
-      none-any (c .n2) (inColumn c e) (λ j l. not-true (inColumn c e j) (λ t. let w = has-column e j t in clash (w .2) (h (w .0) j (w .1) l))) in
+      let r : anyBelow (c .n1) (rowTouched c e) ≡ false =
+      none-any (c .n1) (rowTouched c e) (λ i l. not-true (rowTouched c e i) (λ t. let w = has-row e i t in clash (w .2) (h i (w .0) l (w .1)))) in
+      let k : anyBelow (c .n2) (columnTouched c e) ≡ false =
+      none-any (c .n2) (columnTouched c e) (λ j l. not-true (columnTouched c e j) (λ t. let w = has-column e j t in clash (w .2) (h (w .0) j (w .1) l))) in
       λ i. record {
         cells = cells-none (c .n1) (c .n2) e h i;
-        top = first-none (c .n1) (inRow c e) r i;
-        left = first-none (c .n2) (inColumn c e) k i;
-        height = past-none (c .n1) (inRow c e) r i - first-none (c .n1) (inRow c e) r i;
-        width = past-none (c .n2) (inColumn c e) k i - first-none (c .n2) (inColumn c e) k i;
+        top = first-none (c .n1) (rowTouched c e) r i;
+        left = first-none (c .n2) (columnTouched c e) k i;
+        height = past-none (c .n1) (rowTouched c e) r i - first-none (c .n1) (rowTouched c e) r i;
+        width = past-none (c .n2) (columnTouched c e) k i - first-none (c .n2) (columnTouched c e) k i;
       }
 
   pub burst-report : Formed c → (e : Cells) → Burst c e → Small c (reportOf c e)
@@ -253,19 +253,19 @@ module _ (c : Code) where
     columns-on = k .2;
   }
     where
-      box : cellsIn (c .n1) (c .n2) e ≤ c .b1 * c .b2
+      box : cellCount (c .n1) (c .n2) e ≤ c .b1 * c .b2
       box = box-count (B .top) (B .left) (c .b1) (c .b2) e (B .inside) (c .n1) (c .n2)
 
       sixteen : c .b1 * c .b2 ≤ 16
       sixteen = mul-le-mul (F .b1-most) (F .b2-most)
 
-      r : (firstOf (c .n1) (inRow c e) < c .n1) × (size (c .n1) (inRow c e) ≤ c .b1) × (firstOf (c .n1) (inRow c e) + size (c .n1) (inRow c e) ≤ c .n1)
+      r : (firstOf (c .n1) (rowTouched c e) < c .n1) × (size (c .n1) (rowTouched c e) ≤ c .b1) × (firstOf (c .n1) (rowTouched c e) + size (c .n1) (rowTouched c e) ≤ c .n1)
       r =
-          run-bounds (c .n1) (inRow c e) (B .top) (c .b1) (le-trans (F .b1-pos) (F .n1-least))
+          run-bounds (c .n1) (rowTouched c e) (B .top) (c .b1) (le-trans (F .b1-pos) (F .n1-least))
           (from-row (B .top) (B .left) (c .b1) (c .b2) e (B .inside)) (to-row (B .top) (B .left) (c .b1) (c .b2) e (B .inside))
 
-      k : (firstOf (c .n2) (inColumn c e) < c .n2) × (size (c .n2) (inColumn c e) ≤ c .b2)
-          × (firstOf (c .n2) (inColumn c e) + size (c .n2) (inColumn c e) ≤ c .n2)
+      k : (firstOf (c .n2) (columnTouched c e) < c .n2) × (size (c .n2) (columnTouched c e) ≤ c .b2)
+          × (firstOf (c .n2) (columnTouched c e) + size (c .n2) (columnTouched c e) ≤ c .n2)
       k =
-          run-bounds (c .n2) (inColumn c e) (B .left) (c .b2) (le-trans (F .b2-pos) (F .n2-least))
+          run-bounds (c .n2) (columnTouched c e) (B .left) (c .b2) (le-trans (F .b2-pos) (F .n2-least))
           (from-column (B .top) (B .left) (c .b1) (c .b2) e (B .inside)) (to-column (B .top) (B .left) (c .b1) (c .b2) e (B .inside))

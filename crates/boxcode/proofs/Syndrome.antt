@@ -5,6 +5,7 @@
 --   joined                        two numbers in one: sum-joined, weight-joined, the same of their sums
 --   row-flip, column-flip, row-cells, column-cells, belongs-cells   the same for the two sums
 --   row-below, column-below, joint-below   the weights of cells on the sheet are of rv, of rh and of rv + rh bits
+--   check-below                   so is the joint entry of a check cell
 --   jointSum-is                   the sum of the joint weights is V sum + 2 to the power rv × H sum
 --   joint-belongs, belongs-joint  it is 0 exactly where the sheet belongs
 --
@@ -21,7 +22,7 @@ use Rattle.gf2.specs.Xor.{_⊕_, pick}
 use Rattle.gf2.specs.Sum.{xorSum}
 use Rattle.gf2.proofs.Xor.{pick-differ, pick-below}
 use Rattle.gf2.proofs.Sum.{sum-equal, sum-xor, sum-blocks, sum-below}
-use Rattle.boxcode.specs.Code.{Code, Formed, rowWeight, columnWeight, jointWeight}
+use Rattle.boxcode.specs.Code.{Code, Formed, rowWeight, columnWeight, jointWeight, checkJoint}
 use Rattle.boxcode.specs.Syndrome.{Cells, weightSum, rowSyndrome, columnSyndrome, Belongs, flip, SameCells}
 
 -- ---- any weight
@@ -159,6 +160,10 @@ module _ (c : Code) (F : Formed c) where
   pub joint-below : (i j : ℕ) → i < c .n1 → j < c .n2 → jointWeight c i j < 2 ^ (c .rv + c .rh)
   unfolding jointWeight
   joint-below i j li lj = joined-below (c .rv) (c .rh) (rowWeight c i j) (columnWeight c i j) (row-below i j li) (column-below i j lj)
+
+  pub check-below : (k : ℕ) → k < c .rv + c .rh → checkJoint c k < 2 ^ (c .rv + c .rh)
+  unfolding checkJoint
+  check-below k l = joint-below (c .checkRow k) (c .checkColumn k) (F .check-rows k l) (F .check-columns k l)
 
   pub joint-belongs : (s : Cells) → weightSum (c .n1) (c .n2) (jointWeight c) s ≡ 0 → Belongs c s
   joint-belongs s e =

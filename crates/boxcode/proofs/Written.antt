@@ -33,7 +33,7 @@ use Rattle.finite.proofs.Truth.{both-equal, equal-both, not-true, xor-equal}
 use Rattle.finite.proofs.Search.{least-found, least-most}
 use Rattle.finite.proofs.Digits.{bit-none, number-below, bit-number}
 use Rattle.boxcode.proofs.Image.{sum-image, unpicked}
-use Rattle.boxcode.proofs.Syndrome.{weight-flip, weight-flat, weight-below, joint-below, joint-belongs, belongs-joint}
+use Rattle.boxcode.proofs.Syndrome.{weight-flip, weight-flat, weight-below, joint-below, check-below, joint-belongs, belongs-joint}
 use Rattle.boxcode.proofs.Check.{check-row, check-column, number-cell, check-listed, check-found, rank-below}
 use Rattle.boxcode.proofs.Fill.{checkCell, SameData, cell-data, same-cells, fill-check, data-fill, width-pos}
 
@@ -143,9 +143,7 @@ module _ (c : Code) (F : Formed c) where
 
       way : (m : ℕ → Bool) × (chosenSum r m (checkJoint c) ≡ jointSum c (fill c x 0))
       way =
-          spans-all r (checkJoint c) few
-          (λ k l. unfold checkJoint in joint-below c F (c .checkRow k) (c .checkColumn k) (F .check-rows k l) (F .check-columns k l))
-          (K .checks) (jointSum c (fill c x 0)) (weight-below (c .n1) (c .n2) (jointWeight c) r (fill c x 0) (joint-below c F))
+          spans-all r (checkJoint c) few (check-below c F) (K .checks) (jointSum c (fill c x 0)) (weight-below (c .n1) (c .n2) (jointWeight c) r (fill c x 0) (joint-below c F))
 
   written-belongs : Conditions c → (x : Bits) → Belongs c (written c x)
   unfolding written

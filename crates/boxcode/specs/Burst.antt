@@ -4,8 +4,10 @@
 --   Fits c s e       the sheet with e turned over belongs to the plan
 --   boxCells         the cells of pattern number x in a rectangle: row r and column t of it have digit r × width + t
 --   trials           how many rectangles and patterns there are to try
---   trialCells       the cells of trial number t: rectangles in sheet order, the patterns of each by number
+--   trialTop, trialLeft, trialPattern   trial number t: rectangles in sheet order, the patterns of each by number
+--   trialCells       its cells
 --   tried            trial number t has the two sums that are asked for
+--   firstTrial       the first that has
 --   hasBurst, burstFor   some burst has these two sums; the first that has
 use Prim.Native.Nat.{ℕ, _+_, _-_, _*_, _/_, _%_, _^_, _≤_, _<_}
 use mathlib.Core.Path.{_≡_}
@@ -45,14 +47,26 @@ lefts c = c .n2 - c .b2 + 1
 unfoldable pub trials : Code → ℕ
 trials c = (c .n1 - c .b1 + 1) * lefts c * patterns c
 
+abbrev pub trialTop : Code → ℕ → ℕ
+trialTop c t = t / patterns c / lefts c
+
+abbrev pub trialLeft : Code → ℕ → ℕ
+trialLeft c t = t / patterns c % lefts c
+
+abbrev pub trialPattern : Code → ℕ → ℕ
+trialPattern c t = t % patterns c
+
 unfoldable pub trialCells : Code → ℕ → Cells
-trialCells c t = boxCells (t / patterns c / lefts c) (t / patterns c % lefts c) (c .b1) (c .b2) (t % patterns c)
+trialCells c t = boxCells (trialTop c t) (trialLeft c t) (c .b1) (c .b2) (trialPattern c t)
 
 unfoldable pub tried : Code → ℕ → ℕ → ℕ → Bool
 tried c v h t = eqb (rowSyndrome c (trialCells c t)) v && eqb (columnSyndrome c (trialCells c t)) h
 
+abbrev pub firstTrial : Code → ℕ → ℕ → ℕ
+firstTrial c v h = least (trials c) (tried c v h)
+
 unfoldable pub hasBurst : Code → ℕ → ℕ → Bool
-hasBurst c v h = ltb (least (trials c) (tried c v h)) (trials c)
+hasBurst c v h = ltb (firstTrial c v h) (trials c)
 
 unfoldable pub burstFor : Code → ℕ → ℕ → Cells
-burstFor c v h = trialCells c (least (trials c) (tried c v h))
+burstFor c v h = trialCells c (firstTrial c v h)

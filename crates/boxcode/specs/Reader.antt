@@ -4,6 +4,8 @@
 --   change       the cells that are turned over: the first burst that does
 --   mended       the sheet after that
 --   Report       how many cells were turned over, and the smallest rectangle that holds them; five zeros where none were
+--   cellCount    the number of cells of a set
+--   rowTouched, columnTouched   a row, and a column, has a cell of the set
 --   reportOf     the report of a set of cells
 use Prim.Native.Nat.{ℕ, zero, suc, _+_, _-_}
 use mathlib.Core.Bool.{Bool}
@@ -29,22 +31,22 @@ pub record Report : Type 0 where
   pub width : ℕ
 
 -- the number of cells of a set on the first n rows
-unfoldable pub cellsIn : ℕ → ℕ → Cells → ℕ
-cellsIn zero m e = 0
-cellsIn (suc n) m e = cellsIn n m e + countBelow m (e n)
+unfoldable pub cellCount : ℕ → ℕ → Cells → ℕ
+cellCount zero m e = 0
+cellCount (suc n) m e = cellCount n m e + countBelow m (e n)
 
 -- row i, and column j, has a cell of the set
-unfoldable pub inRow : Code → Cells → ℕ → Bool
-inRow c e i = anyBelow (c .n2) (e i)
+unfoldable pub rowTouched : Code → Cells → ℕ → Bool
+rowTouched c e i = anyBelow (c .n2) (e i)
 
-unfoldable pub inColumn : Code → Cells → ℕ → Bool
-inColumn c e j = anyBelow (c .n1) (λ i. e i j)
+unfoldable pub columnTouched : Code → Cells → ℕ → Bool
+columnTouched c e j = anyBelow (c .n1) (λ i. e i j)
 
 unfoldable pub reportOf : Code → Cells → Report
 reportOf c e = record {
-  cells = cellsIn (c .n1) (c .n2) e;
-  top = firstOf (c .n1) (inRow c e);
-  left = firstOf (c .n2) (inColumn c e);
-  height = pastOf (c .n1) (inRow c e) - firstOf (c .n1) (inRow c e);
-  width = pastOf (c .n2) (inColumn c e) - firstOf (c .n2) (inColumn c e);
+  cells = cellCount (c .n1) (c .n2) e;
+  top = firstOf (c .n1) (rowTouched c e);
+  left = firstOf (c .n2) (columnTouched c e);
+  height = pastOf (c .n1) (rowTouched c e) - firstOf (c .n1) (rowTouched c e);
+  width = pastOf (c .n2) (columnTouched c e) - firstOf (c .n2) (columnTouched c e);
 }

@@ -27,10 +27,11 @@ use Rattle.boxcode.specs.Code.{cellNumber}
 use Rattle.boxcode.specs.Syndrome.{weightSum, rowSyndrome, columnSyndrome}
 use Rattle.boxcode.specs.Burst.{boxCells, patterns, lefts, trials, trialCells, tried, hasBurst, burstFor}
 use Rattle.boxcode.specs.Check.{checkNumber, checkAt, checkIndex, dataOrder, dataSize, rank, dataCell, fill, belongs, written, dataOf}
-use Rattle.boxcode.specs.Reader.{mendable, change, mended, cellsIn, inRow as rowHas, inColumn, reportOf}
+use Rattle.boxcode.specs.Reader.{change, mended, cellCount, rowTouched, columnTouched, reportOf}
 use Rattle.buffers.specs.Buffers.{lengthVerdict, unusedVerdict, writeChecks, readChecks}
 use Rattle.writer.specs.Write.{writtenBytes, write}
-use Rattle.reader.specs.Read.{readVerdict, sheetRead, bitsRead, reportRead, readOutcome}
+use Rattle.mend.specs.Found.{firstBurst}
+use Rattle.reader.specs.Read.{burstIn, readVerdict, sheetRead, bitsRead, reportRead, readOutcome}
 use mathlib.Core.Bool.{xor}
 use Rattle.cases.specs.Table.{Case, testing, writing, reading, table}
 
@@ -40,5 +41,5 @@ run (writing plan bits sheet o) = writing plan bits sheet (write plan bits sheet
 run (reading plan sheet bits o) = reading plan sheet bits (readOutcome plan sheet bits)
 
 pub cases-hold : map run table ≡ table
-unfolding table S T planS planT planBytes planVerdict conditionsVerdict rowsVerdict columnsVerdict checksVerdict inRow fromRow firstFailing _orElse_ headerOf codeOf badBurst badSheet badWidths badOffsets fieldsVerdict headerVerdict firstLarge entriesVerdict rises badPair listVerdict formVerdict u16At u32At least within place _⊕_ spanned free rowWeight columnWeight jointWeight checkJoint rowMember columnMember columnDifference stripEntry rowPairFree columnPairFree bit numberOf anyBelow countBelow firstOf pastOf pick xorSum rowBytes sheetBytes byteOf cellOf usedBits unusedAt firstUnused tabulate byteFrom bytesOf cellNumber weightSum rowSyndrome columnSyndrome boxCells patterns lefts trials trialCells tried hasBurst burstFor checkNumber checkAt checkIndex dataOrder dataSize rank dataCell fill belongs written dataOf mendable change mended cellsIn rowHas inColumn reportOf lengthVerdict unusedVerdict writeChecks readChecks writtenBytes write readVerdict sheetRead bitsRead reportRead readOutcome xor
+unfolding table S T planS planT planBytes planVerdict conditionsVerdict rowsVerdict columnsVerdict checksVerdict inRow fromRow firstFailing _orElse_ headerOf codeOf badBurst badSheet badWidths badOffsets fieldsVerdict headerVerdict firstLarge entriesVerdict rises badPair listVerdict formVerdict u16At u32At least within place _⊕_ spanned free rowWeight columnWeight jointWeight checkJoint rowMember columnMember columnDifference stripEntry rowPairFree columnPairFree bit numberOf anyBelow countBelow firstOf pastOf pick xorSum rowBytes sheetBytes byteOf cellOf usedBits unusedAt firstUnused tabulate byteFrom bytesOf cellNumber weightSum rowSyndrome columnSyndrome boxCells patterns lefts trials trialCells tried hasBurst burstFor checkNumber checkAt checkIndex dataOrder dataSize rank dataCell fill belongs written dataOf change mended cellCount rowTouched columnTouched reportOf lengthVerdict unusedVerdict writeChecks readChecks writtenBytes write firstBurst burstIn readVerdict sheetRead bitsRead reportRead readOutcome xor
 cases-hold = refl

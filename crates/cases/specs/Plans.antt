@@ -13,19 +13,19 @@ le16 n = n % 256 ∷ n / 256 % 256 ∷ []
 le32 : ℕ → List ℕ
 le32 n = n % 256 ∷ n / 256 % 256 ∷ n / 65536 % 256 ∷ n / 16777216 % 256 ∷ []
 
-numbers : (ℕ → List ℕ) → List ℕ → List ℕ
-numbers f [] = []
-numbers f (x ∷ xs) = f x ++ numbers f xs
+encoded : (ℕ → List ℕ) → List ℕ → List ℕ
+encoded f [] = []
+encoded f (x ∷ xs) = f x ++ encoded f xs
 
 -- the check list as row, column, row, column, …
 unfoldable pub planBytes : (n1 n2 b1 b2 rv rh : ℕ) → (rows columns checks : List ℕ) → List ℕ
-unfolding le16 le32 numbers
+unfolding le16 le32 encoded
 planBytes n1 n2 b1 b2 rv rh rows columns checks =
     let start = 20 + 4 * length rows in
     let list = start + 4 * length columns in
     let end = list + 2 * length checks in
-    numbers le16 (n1 ∷ n2 ∷ b1 ∷ b2 ∷ rv ∷ rh ∷ 20 ∷ start ∷ list ∷ end ∷ [])
-    ++ (numbers le32 rows ++ (numbers le32 columns ++ numbers le16 checks))
+    encoded le16 (n1 ∷ n2 ∷ b1 ∷ b2 ∷ rv ∷ rh ∷ 20 ∷ start ∷ list ∷ end ∷ [])
+    ++ (encoded le32 rows ++ (encoded le32 columns ++ encoded le16 checks))
 
 -- S: 3 rows, 3 columns, bursts of one cell
 unfoldable pub planS : (rows columns checks : List ℕ) → List ℕ

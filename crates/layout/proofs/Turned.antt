@@ -4,6 +4,7 @@
 --   turned-cell           the cells are the old ones, but the one that was turned
 --   turned-bytes          so the bytes of cells p become those of p with the cell turned
 --   turned-if-bytes       the same where the cell is turned only if b holds
+--   turned-if-length      the number of bytes is kept
 --
 -- Assumes nothing.
 use mathlib.Core.Path.{_≡_, refl, sym, ap, ap₂, _∙_}
@@ -100,3 +101,8 @@ pub turned-if-bytes : (n1 n2 : ℕ) (b : Bool) (p q : ℕ → ℕ → Bool) (i j
     → turnedIf b n2 (bytesOf n1 n2 p) i j ≡ bytesOf n1 n2 q
 turned-if-bytes n1 n2 true p q i j li lj h = turned-bytes n1 n2 p q i j (li refl) (lj refl) h
 turned-if-bytes n1 n2 false p q i j li lj h = bytes-equal n1 n2 p q (λ x y lx ly. sym (xor-none (p x y)) ∙ h x y lx ly)
+
+pub turned-if-length : (b : Bool) (n2 : ℕ) (s : List ℕ) (i j : ℕ) → length (turnedIf b n2 s i j) ≡ length s
+unfolding turned
+turned-if-length true n2 s i j = simp length-set
+turned-if-length false n2 s i j = refl

@@ -8,17 +8,18 @@
 --
 -- Assumes nothing.
 use mathlib.Core.Path.{_≡_, refl, sym, ap, _∙_}
-use mathlib.Core.Bool.{Bool, false}
+use mathlib.Core.Bool.{Bool, true, false, cond}
 use mathlib.Core.List.{List}
-use Prim.Native.Nat.{ℕ, zero, suc, _+_, _*_, _%_, _^_, _≤_}
-use native.Mathlib.Nat.{zero-div}
+use Prim.Native.Nat.{ℕ, zero, suc, _+_, _-_, _*_, _%_, _≤_, _<_}
 use native.Mathlib.Omega.{arith}
-use lib.Dec.{eqb}
+use borrow.Author.Tests.{eqb-true, eq-eqb, ltb-true, lt-ltb}
+use lib.Dec.{ltb}
 use Rattle.gf2.specs.Sum.{chosenSum}
 use Rattle.gf2.proofs.Sum.{sum-zero}
-use Rattle.finite.specs.Search.{bit, numberOf}
-use Rattle.finite.proofs.Truth.{not-true}
-use Rattle.finite.proofs.Digits.{number-below}
+use Rattle.finite.specs.Search.{bit, least, numberOf}
+use Rattle.finite.proofs.Truth.{never, not-true}
+use Rattle.finite.proofs.Search.{least-found, least-most}
+use Rattle.finite.proofs.Digits.{bit-none, number-below}
 use Rattle.boxcode.specs.Code.{Code, Formed}
 use Rattle.boxcode.specs.Condition.{Conditions}
 use Rattle.boxcode.specs.Burst.{hasBurst}
@@ -26,16 +27,16 @@ use Rattle.boxcode.proofs.Image.{unpicked}
 use Rattle.boxcode.proofs.Condition.{separated}
 use Rattle.boxcode.proofs.Trial.{Found, has-burst, burst-is}
 use Rattle.boxcode.proofs.Laid.{none-found, strip-found, found-strip}
-use Rattle.mend.specs.Window.{inWindow, windowSum, entryAt}
-use Rattle.mend.specs.Strip.{wordAt, laidCell, laidRow, laidLine, laidSum, laidDigit, boxPattern, OnStrips}
+use Rattle.mend.specs.Window.{windowSum, entryAt}
+use Rattle.mend.specs.Strip.{wordAt, laidCell, laidRow, laidLine, laidSum, fitsOn, laidDigit, boxPattern, onStrips}
 use Rattle.plan.specs.declared.header.Header.{Header}
 use Rattle.plan.specs.Bytes.{codeWith, columnEntryAt}
 use Rattle.plan.specs.Table.{Unpacked}
-use Rattle.mend.specs.declared.found.Found.{Found as Answer}
 use Rattle.mend.specs.declared.found.Found.the-variants.{Burst, Nothing}
-use Rattle.mend.specs.Usable.{Usable}
-use Rattle.mend.specs.Found.{IsBurst, FoundFor}
-use Rattle.mend.proofs.Window.{in-window, window-sum, pattern-sum}
+use Rattle.plan.specs.Accepted.{AcceptedWith}
+use Rattle.mend.specs.Found.{IsBurst, BurstOrNone, FoundFor}
+use Rattle.mend.proofs.First.{found-for}
+use Rattle.mend.proofs.Window.{inWindow, in-window, window-sum, pattern-sum}
 use Rattle.mend.proofs.Laying.{laidCells, laid-entries, laid-sum, laid-number}
 
 module _ (c : Code) (F : Formed c) (K : Conditions c) (v s : ℕ) where
@@ -76,10 +77,6 @@ module _ (c : Code) (F : Formed c) (K : Conditions c) (v s : ℕ) where
 
 -- ---- a V sum of 0
 
-zero-digit : (k : ℕ) → bit 0 k ≡ false
-unfolding bit
-zero-digit k = ap (λ (n : ℕ). eqb (n % 2) 1) (zero-div (2 ^ k))
-
 number-none : (n : ℕ) (p : ℕ → Bool) → ((k : ℕ) → p k ≡ false) → numberOf n p ≡ 0
 unfolding numberOf
 number-none zero p h = refl
@@ -88,15 +85,15 @@ number-none (suc n) p h = rw (h 0, number-none n (λ k. p (suc k)) (λ k. h (suc
 module _ (c : Code) (F : Formed c) (K : Conditions c) where
   no-sum : windowSum c 0 (bit 0) ≡ 0
   unfolding windowSum
-  no-sum = sum-zero (c .b1 * c .b2) _ (λ k l. unpicked (bit 0 k) (entryAt c 0 k) (zero-digit k))
+  no-sum = sum-zero (c .b1 * c .b2) _ (λ k l. unpicked (bit 0 k) (entryAt c 0 k) (bit-none k))
 
   no-laid : (a : ℕ) → laidSum (c .b1) (c .b2) (c .columnEntry) 0 a 0 ≡ 0
   unfolding laidSum laidLine laidRow laidCell
-  no-laid a = sum-zero (c .b1) _ (λ r lr. sum-zero (c .b2) _ (λ d ld. unpicked _ _ (zero-digit (r * c .b2 + (a + d) % c .b2))))
+  no-laid a = sum-zero (c .b1) _ (λ r lr. sum-zero (c .b2) _ (λ d ld. unpicked _ _ (bit-none (r * c .b2 + (a + d) % c .b2))))
 
   no-pattern : boxPattern (c .b1) (c .b2) 0 0 ≡ 0
   unfolding boxPattern laidDigit
-  no-pattern = number-none (c .b1 * c .b2) (laidDigit (c .b2) 0 0) (λ k. zero-digit _)
+  no-pattern = number-none (c .b1 * c .b2) (laidDigit (c .b2) 0 0) (λ k. bit-none _)
 
   first-window : 0 + c .b1 ≤ c .n1
   first-window = let l = F .n1-least in omega arith
@@ -112,14 +109,32 @@ module _ (c : Code) (F : Formed c) (K : Conditions c) where
 -- ---- from the strips to the answer
 
 -- on the strips, the unpacked table is the plan's: so what the strips answer is right for the two sums
-pub strips-decide : (s : List ℕ) (h : Header) (words : List ℕ) → Usable s h → Unpacked s h words
+pub strips-decide : (s : List ℕ) (h : Header) (words : List ℕ) → AcceptedWith s h → Unpacked s h words
     → (v t i x : ℕ) → i + h .b1 ≤ h .n1 → windowSum (codeWith s h) i (bit x) ≡ v
-    → (r : Answer) → OnStrips h (wordAt words) i x t r → FoundFor (codeWith s h) v t r
-strips-decide s h words U T v t i x rows q = go
+    → FoundFor (codeWith s h) v t (onStrips h (wordAt words) i x t)
+unfolding onStrips fitsOn
+strips-decide s h words U T v t i x rows q = found-for (codeWith s h) v t (onStrips h (wordAt words) i x t) (go (ltb a n) refl)
   where
+    n : ℕ
+    n = h .n2 - h .b2 + 1
+
+    p : ℕ → Bool
+    p = fitsOn (h .b1) (h .b2) (wordAt words) i x t
+
+    a : ℕ
+    a = least n p
+
     same : (a : ℕ) → a + h .b2 ≤ h .n2 → laidSum (h .b1) (h .b2) (wordAt words) i a x ≡ laidSum (h .b1) (h .b2) (columnEntryAt s h) i a x
     same a on = laid-entries (h .b1) (h .b2) (h .n2) i a x (wordAt words) (columnEntryAt s h) (U .formed .b1-pos) on (T .entry)
 
-    go : (r : Answer) → OnStrips h (wordAt words) i x t r → FoundFor (codeWith s h) v t r
-    go (Burst top left y) o = rw (o .0, o .3) (strip-burst (codeWith s h) (U .formed) (U .conditions) v t i x rows q left (o .1) (sym (same left (o .1)) ∙ o .2))
-    go Nothing o = strip-none (codeWith s h) (U .formed) (U .conditions) v t i x rows q (λ a on e. o a on (same a on ∙ e))
+    go : (b : Bool) → ltb a n ≡ b → BurstOrNone (codeWith s h) v t (cond b (Burst i a (boxPattern (h .b1) (h .b2) a x)) Nothing)
+    go true e =
+        let l : a < n = ltb-true a n e in
+        let on : a + h .b2 ≤ h .n2 = (let w = U .framed .small .n2-least in omega arith) in
+        strip-burst (codeWith s h) (U .formed) (U .conditions) v t i x rows q a on
+        (sym (same a on) ∙ eqb-true (laidSum (h .b1) (h .b2) (wordAt words) i a x) t (least-found n p l))
+    go false e =
+        strip-none (codeWith s h) (U .formed) (U .conditions) v t i x rows q
+        (λ k on z.
+        let m : a ≤ k = least-most n p k (eq-eqb (laidSum (h .b1) (h .b2) (wordAt words) i k x) t (same k on ∙ z)) in
+        never (ltb a n) (lt-ltb a n (omega arith)) e)

@@ -25,11 +25,10 @@ use Rattle.boxcode.specs.Burst.{Inside, boxCells}
 use Rattle.boxcode.proofs.Image.{unpicked}
 use Rattle.boxcode.proofs.Laid.{laid, laid-inside}
 use Rattle.boxcode.proofs.Trial.{boxNumber, box-number}
-use Rattle.mend.specs.Window.{inWindow}
 use Rattle.mend.specs.Strip.{laidCell, laidRow, laidLine, laidSum, laidDigit, boxPattern}
 use Rattle.mend.proofs.Turns.{number-equal}
 use Rattle.mend.proofs.Runs.{run-sum}
-use Rattle.mend.proofs.Window.{in-window, window-place}
+use Rattle.mend.proofs.Window.{inWindow, in-window, window-place}
 
 unfoldable pub laidCells : Code → ℕ → ℕ → ℕ → Cells
 laidCells c i x a = laid c (inWindow c i (bit x)) a

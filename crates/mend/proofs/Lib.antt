@@ -3,5 +3,6 @@ pub mod Turns
 pub mod Runs
 pub mod Window
 pub mod Laying
+pub mod First
 pub mod Decision
 pub mod Rectangle

@@ -20,7 +20,7 @@ use Rattle.finite.proofs.Count.{count-equal, count-none, count-rise}
 use Rattle.boxcode.specs.Code.{Code, Formed}
 use Rattle.boxcode.specs.Syndrome.{Cells}
 use Rattle.boxcode.specs.Burst.{Inside, boxCells, burstFor}
-use Rattle.boxcode.specs.Reader.{cellsIn, inRow, inColumn, reportOf}
+use Rattle.boxcode.specs.Reader.{cellCount, rowTouched, columnTouched, reportOf}
 use Rattle.boxcode.proofs.Trial.{box-inside}
 use Rattle.boxcode.proofs.Report.{nothing, cells-flat, cells-none, cells-some, report-cells, report-none}
 use Rattle.mend.specs.Found.{IsBurst}
@@ -29,16 +29,16 @@ use Rattle.mend.proofs.Runs.{Run, run-any, run-count, run-first, run-pa
 
 -- ---- the number of cells, by rows
 
-cells-split : (a b m : ℕ) (e : Cells) → cellsIn (a + b) m e ≡ cellsIn a m e + cellsIn b m (λ i. e (a + i))
-unfolding cellsIn
-cells-split a zero m e = rw (add-zero a) (let z : cellsIn a m e ≡ cellsIn a m e + 0 = omega arith in z)
+cells-split : (a b m : ℕ) (e : Cells) → cellCount (a + b) m e ≡ cellCount a m e + cellCount b m (λ i. e (a + i))
+unfolding cellCount
+cells-split a zero m e = rw (add-zero a) (let z : cellCount a m e ≡ cellCount a m e + 0 = omega arith in z)
 cells-split a (suc b) m e =
     rw (add-suc a b)
-    (let h : cellsIn (a + b) m e ≡ cellsIn a m e + cellsIn b m (λ i. e (a + i)) = cells-split a b m e in
-    let z : cellsIn (a + b) m e + countBelow m (e (a + b)) ≡ cellsIn a m e + (cellsIn b m (λ i. e (a + i)) + countBelow m (e (a + b))) = omega arith in z)
+    (let h : cellCount (a + b) m e ≡ cellCount a m e + cellCount b m (λ i. e (a + i)) = cells-split a b m e in
+    let z : cellCount (a + b) m e + countBelow m (e (a + b)) ≡ cellCount a m e + (cellCount b m (λ i. e (a + i)) + countBelow m (e (a + b))) = omega arith in z)
 
-cells-rows : (n m m' : ℕ) (e e' : Cells) → ((i : ℕ) → i < n → countBelow m (e i) ≡ countBelow m' (e' i)) → cellsIn n m e ≡ cellsIn n m' e'
-unfolding cellsIn
+cells-rows : (n m m' : ℕ) (e e' : Cells) → ((i : ℕ) → i < n → countBelow m (e i) ≡ countBelow m' (e' i)) → cellCount n m e ≡ cellCount n m' e'
+unfolding cellCount
 cells-rows zero m m' e e' h = refl
 cells-rows (suc n) m m' e e' h = ap₂ _+_ (cells-rows n m m' e e' (λ i l. h i (omega arith))) (h n (lt-suc-self n))
 
@@ -75,10 +75,10 @@ module _ (n m top left b1 b2 x : ℕ) (rows : top + b1 ≤ n) (columns : left + 
     to = λ i t. inside .row-to i (left + d) t;
   }
 
-  box-cells : cellsIn n m e ≡ countBelow (b1 * b2) (bit x)
+  box-cells : cellCount n m e ≡ countBelow (b1 * b2) (bit x)
   box-cells =
       let s : n ≡ top + (b1 + (n - top - b1)) = omega arith in
-      ap (λ (k : ℕ). cellsIn k m e) s
+      ap (λ (k : ℕ). cellCount k m e) s
       ∙ cells-split top (b1 + (n - top - b1)) m e
       ∙ ap₂ _+_ (cells-none top m e (λ i j li lj. not-true (e i j) (λ t. let f = inside .row-from i j t in omega arith)))
       (cells-split b1 (n - top - b1) m (λ r. e (top + r))
@@ -100,8 +100,8 @@ module _ (c : Code) (top left x : ℕ) (pos : 0 < c .b2) (rows : top + c .b1 ≤
   unfolding cells
   in-box = box-inside top left (c .b1) (c .b2) x
 
-  rows-run : Run (c .n1) top (c .b1) (inRow c cells) (rowHas (c .b2) x)
-  unfolding inRow rowHas cells e
+  rows-run : Run (c .n1) top (c .b1) (rowTouched c cells) (rowHas (c .b2) x)
+  unfolding rowTouched rowHas cells e
   rows-run = record {
     on = rows;
     same = λ r lr.
@@ -111,8 +111,8 @@ module _ (c : Code) (top left x : ℕ) (pos : 0 < c .b2) (rows : top + c .b1 ≤
     to = λ i t. let w = any-found (c .n2) (cells i) t in in-box .row-to i (w .0) (w .2);
   }
 
-  columns-run : Run (c .n2) left (c .b2) (inColumn c cells) (columnHas (c .b1) (c .b2) x)
-  unfolding inColumn columnHas cells e
+  columns-run : Run (c .n2) left (c .b2) (columnTouched c cells) (columnHas (c .b1) (c .b2) x)
+  unfolding columnTouched columnHas cells e
   columns-run = record {
     on = columns;
     same = λ d ld.
@@ -125,7 +125,7 @@ module _ (c : Code) (top left x : ℕ) (pos : 0 < c .b2) (rows : top + c .b1 ≤
   count : ℕ
   count = countBelow (c .b1 * c .b2) (bit x)
 
-  cells-count : cellsIn (c .n1) (c .n2) cells ≡ count
+  cells-count : cellCount (c .n1) (c .n2) cells ≡ count
   unfolding cells e count
   cells-count = box-cells (c .n1) (c .n2) top left (c .b1) (c .b2) x rows columns
 
@@ -160,17 +160,17 @@ module _ (c : Code) (top left x : ℕ) (pos : 0 < c .b2) (rows : top + c .b1 ≤
       go : Truth (anyBelow (c .b1 * c .b2) (bit x)) → reportOf c (boxCells top left (c .b1) (c .b2) x) ≡ boxReport top left (c .b1) (c .b2) x
       go (is-false t) =
           let z : count ≡ 0 = count-none (c .b1 * c .b2) (bit x) (any-none (c .b1 * c .b2) (bit x) t) in
-          let n : cellsIn (c .n1) (c .n2) cells ≡ 0 = cells-count ∙ z in
+          let n : cellCount (c .n1) (c .n2) cells ≡ 0 = cells-count ∙ z in
           rw (eq-eqb count 0 z)
-          (report-none c cells (λ i j li lj. not-true (cells i j) (λ u. let p : 0 < cellsIn (c .n1) (c .n2) cells = cells-some (c .n1) (c .n2) cells i j li lj u in omega arith)))
+          (report-none c cells (λ i j li lj. not-true (cells i j) (λ u. let p : 0 < cellCount (c .n1) (c .n2) cells = cells-some (c .n1) (c .n2) cells i j li lj u in omega arith)))
       go (is-true t) =
           let w = any-found (c .b1 * c .b2) (bit x) t in
           let ar = some-row (w .0) (w .1) (w .2) in
           let ac = some-column (w .0) (w .1) (w .2) in
-          let fr = run-first (c .n1) top (c .b1) (inRow c cells) (rowHas (c .b2) x) rows-run ar in
-          let pr = run-past (c .n1) top (c .b1) (inRow c cells) (rowHas (c .b2) x) rows-run ar in
-          let fc = run-first (c .n2) left (c .b2) (inColumn c cells) (columnHas (c .b1) (c .b2) x) columns-run ac in
-          let pc = run-past (c .n2) left (c .b2) (inColumn c cells) (columnHas (c .b1) (c .b2) x) columns-run ac in
+          let fr = run-first (c .n1) top (c .b1) (rowTouched c cells) (rowHas (c .b2) x) rows-run ar in
+          let pr = run-past (c .n1) top (c .b1) (rowTouched c cells) (rowHas (c .b2) x) rows-run ar in
+          let fc = run-first (c .n2) left (c .b2) (columnTouched c cells) (columnHas (c .b1) (c .b2) x) columns-run ac in
+          let pc = run-past (c .n2) left (c .b2) (columnTouched c cells) (columnHas (c .b1) (c .b2) x) columns-run ac in
           rw (ne-eqb count 0 (count-some (w .0) (w .1) (w .2)))
           (unfold reportOf in λ i. record {
             cells = cells-count i;

@@ -2,18 +2,22 @@
 --
 --   rows-fit          the positions of a window are positions of the table
 --   gathered          an array with the window's entries
---   in-window, window-place, window-sum   a choice among them, as positions of the table: it is in the window, and has their sum
+--   inWindow          the choice m among a window's entries, as positions of the row table
+--   in-window, window-place, window-sum   it is in the window, and has their sum
 --   pattern-sum       a pattern in the window has the sum of its choice
 --   window-below, window-free   the entries have at most 64 bits; under the conditions they are independent
---   fit-pattern, fit-nothing    so what the solver finds is the pattern with the V sum, and where it finds none there is none
+--   fitOf, fit-solved           so what the solver finds is the first pattern with the V sum
+--   fit-sum, fit-none           that pattern has the V sum; where there is none, no choice has it
 --
 -- Assumes nothing.
 use mathlib.Core.Path.{_≡_, refl, sym, ap, ap₂, _∙_}
-use mathlib.Core.Bool.{Bool, true, _&&_}
+use mathlib.Core.Bool.{Bool, true, false, cond, _&&_}
 use mathlib.Core.List.{List, [], append-nil}
 use Prim.Native.Nat.{ℕ, _+_, _-_, _*_, _/_, _^_, _≤_, _<_}
 use native.Mathlib.Nat.{add-mul, mul-le-mul, mul-le-mul-right, le-div-iff-mul-le, div-lt-iff-lt-mul, lt-of-lt-of-le}
 use native.Mathlib.Omega.{arith}
+use borrow.Author.Tests.{eqb-true, eq-eqb, ltb-true, lt-ltb}
+use lib.Dec.{eqb, ltb}
 use lib.ListN.{length, getD, take}
 use lib.Pow.{pow-mono}
 use lib.Seq.{ext-getD, length-take-le, getD-take}
@@ -23,6 +27,7 @@ use Rattle.gf2.specs.Independence.{Independent}
 use Rattle.gf2.specs.Vectors.{spans, freeFrom, listed}
 use Rattle.gf2.specs.Basis.{Below}
 use Rattle.gf2.specs.Solver.{combination, solution, solved, solverOf}
+use Rattle.gf2.specs.declared.Solution.{Solution}
 use Rattle.gf2.specs.declared.Solution.the-variants.{Combination, Outside}
 use Rattle.gf2.proofs.Sum.{sum-equal}
 use Rattle.gf2.proofs.Independence.{chosen-spanned, independent-free}
@@ -30,16 +35,29 @@ use Rattle.gf2.proofs.Vectors.{listed-length, spanned-listed, free-listed}
 use Rattle.gf2.proofs.Span.{listed-at}
 use Rattle.gf2.proofs.Spans.{spans-turned}
 use Rattle.gf2.proofs.Combination.{combination-listed}
-use Rattle.gf2.proofs.Solving.{solver-solves, solution-found, solution-outside}
-use Rattle.finite.specs.Search.{bit, within}
-use Rattle.finite.proofs.Truth.{Truth, is-true, is-false, true-or-false, not-true, and-left, or-left, within-from, within-to, in-within}
+use Rattle.gf2.proofs.Solving.{solver-solves, solution-found}
+use Rattle.finite.specs.Search.{bit, within, least, numberOf}
+use Rattle.finite.proofs.Search.{least-found, least-most, least-equal}
+use Rattle.finite.proofs.Digits.{number-below, bit-number}
+use Rattle.finite.proofs.Truth.{not-true, same-truth, and-left, or-left, within-from, within-to, in-within}
 use Rattle.boxcode.specs.Code.{Code, Formed}
 use Rattle.boxcode.specs.Condition.{Conditions, rowMember}
+use Rattle.boxcode.specs.Burst.{patterns}
 use Rattle.boxcode.proofs.Image.{unpicked}
 use Rattle.boxcode.proofs.Pattern.{InWindow}
 use Rattle.boxcode.proofs.Condition.{rows-free}
-use Rattle.mend.specs.Window.{entryAt, windowEntries, Gathered, inWindow, windowSum}
+use Rattle.mend.specs.declared.fit.Fit.{Fit}
+use Rattle.mend.specs.declared.fit.Fit.the-variants.{Pattern, Nothing}
+use Rattle.mend.specs.Window.{entryAt, windowEntries, Gathered, windowSum, firstFit}
 use Rattle.mend.proofs.Runs.{run-sum}
+
+unfoldable pub inWindow : Code → ℕ → (ℕ → Bool) → ℕ → Bool
+inWindow c i m k = within (i * c .b2) (c .b1 * c .b2) k && m (k - i * c .b2)
+
+-- what a solution for the window's entries is as a fit
+abbrev pub fitOf : Solution → Fit
+fitOf (Combination x) = Pattern x
+fitOf Outside = Nothing
 
 pub rows-fit : (i b n w : ℕ) → i + b ≤ n → i * w + b * w ≤ n * w
 rows-fit i b n w l = let e : (i + b) * w ≡ i * w + b * w = add-mul i b w in let m : (i + b) * w ≤ n * w = mul-le-mul-right w l in omega arith
@@ -152,25 +170,74 @@ module _ (c : Code) (F : Formed c) (i : ℕ) (on : i + c .b1 ≤ c .n1) where
     unfolding entries
     answer-found t = solution-found (windowEntries c i) few window-below (window-free K) v small t
 
-    pub fit-pattern : (x : ℕ) → solved (solverOf (windowEntries c i) .basis) (solverOf (windowEntries c i) .combos) v ≡ Combination x
-        → (x < 2 ^ (c .b1 * c .b2)) × (windowSum c i (bit x) ≡ v)
-    unfolding entries
-    fit-pattern x e = go (true-or-false (spans (windowEntries c i) v))
-      where
-        go : Truth (spans (windowEntries c i) v) → (x < 2 ^ (c .b1 * c .b2)) × (windowSum c i (bit x) ≡ v)
-        go (is-true t) =
-            let w = answer-found t in
-            let q : x ≡ w .0 = cc (answer-is, w .1) in
-            rw q (rw window-length at (w .2), made (w .0) ∙ w .3)
-        go (is-false t) =
-            let f = solution-outside (windowEntries c i) v t in
-            let z : _≡_ {A = ℕ} 0 1 = cc (answer-is) in
-            absurd (omega arith)
+    -- the first pattern by number, by the solver's vectors
+    first-same : least (patterns c) (λ x. eqb (windowSum c i (bit x)) v) ≡ least (2 ^ length entries) (λ y. eqb (combination entries y) v)
+    unfolding patterns entries
+    first-same =
+        rw window-length
+        (least-equal (2 ^ (c .b1 * c .b2)) (λ x. eqb (windowSum c i (bit x)) v) (λ y. eqb (combination (windowEntries c i) y) v)
+        (λ k l. ap (λ (z : ℕ). eqb z v) (made k)))
 
-    pub fit-nothing : solved (solverOf (windowEntries c i) .basis) (solverOf (windowEntries c i) .combos) v ≡ Outside
-        → (m : ℕ → Bool) → windowSum c i m ≡ v → ⊥
+    -- it is there exactly if the entries span the sum
+    first-below : ltb (least (patterns c) (λ x. eqb (windowSum c i (bit x)) v)) (patterns c) ≡ spans entries v
+    unfolding patterns entries
+    first-below =
+        same-truth (ltb x n) (spans (windowEntries c i) v)
+        (λ h. spans-chosen (bit x) (eqb-true (windowSum c i (bit x)) v (least-found n (λ x. eqb (windowSum c i (bit x)) v) (ltb-true x n h))))
+        (λ t.
+        let w = answer-found t in
+        let l : w .0 < n = rw window-length at (w .2) in
+        let m : x ≤ w .0 = least-most n (λ x. eqb (windowSum c i (bit x)) v) (w .0) (eq-eqb (windowSum c i (bit (w .0))) v (made (w .0) ∙ w .3)) in
+        lt-ltb x n (omega arith))
+      where
+        n : ℕ
+        n = 2 ^ (c .b1 * c .b2)
+
+        x : ℕ
+        x = least n (λ x. eqb (windowSum c i (bit x)) v)
+
+    fit-is : fitOf (solution entries v) ≡ firstFit c i v
+    unfolding firstFit solution
+    fit-is = rw (first-below, first-same) (go (spans entries v) (least (2 ^ length entries) (λ y. eqb (combination entries y) v)))
+      where
+        go : (t : Bool) (y : ℕ) → fitOf (cond t (Combination y) Outside) ≡ cond t (Pattern y) Nothing
+        go true y = refl
+        go false y = refl
+
+    pub fit-solved : (t : Solution) → solved (solverOf (windowEntries c i) .basis) (solverOf (windowEntries c i) .combos) v ≡ t
+        → fitOf t ≡ firstFit c i v
     unfolding entries
-    fit-nothing e m q =
-        let w = answer-found (spans-chosen m q) in
-        let z : _≡_ {A = ℕ} 0 1 = cc (answer-is, w .1) in
-        omega arith
+    fit-solved t e = ap fitOf (sym e ∙ answer-is) ∙ fit-is
+
+-- ---- what the fit says of the window
+
+module _ (c : Code) (i v : ℕ) where
+  abbrev makes : ℕ → Bool
+  makes x = eqb (windowSum c i (bit x)) v
+
+  pub fit-sum : (x : ℕ) → firstFit c i v ≡ Pattern x → windowSum c i (bit x) ≡ v
+  unfolding firstFit
+  fit-sum x e = go (ltb (least (patterns c) makes) (patterns c)) refl e
+    where
+      go : (t : Bool) → ltb (least (patterns c) makes) (patterns c) ≡ t → cond t (Pattern (least (patterns c) makes)) Nothing ≡ Pattern x
+          → windowSum c i (bit x) ≡ v
+      go true b q =
+          let y : least (patterns c) makes ≡ x = cc in
+          eqb-true (windowSum c i (bit x)) v (rw y at (least-found (patterns c) makes (ltb-true (least (patterns c) makes) (patterns c) b)))
+      go false b q = let z : _≡_ {A = ℕ} 0 1 = cc in absurd (omega arith)
+
+  pub fit-none : firstFit c i v ≡ Nothing → (m : ℕ → Bool) → windowSum c i m ≡ v → ⊥
+  unfolding firstFit patterns
+  fit-none e m q =
+      let n = c .b1 * c .b2 in
+      let x = numberOf n m in
+      let w : windowSum c i (bit x) ≡ windowSum c i m =
+      (unfold windowSum in
+      sum-equal n (λ k. pick (bit x k) (entryAt c i k)) (λ k. pick (m k) (entryAt c i k))
+      (λ k l. ap (λ (b : Bool). pick b (entryAt c i k)) (bit-number n m k l))) in
+      let l : least (2 ^ n) makes ≤ x = least-most (2 ^ n) makes x (eq-eqb (windowSum c i (bit x)) v (w ∙ q)) in
+      let u : x < 2 ^ n = number-below n m in
+      let b : ltb (least (2 ^ n) makes) (2 ^ n) ≡ true = lt-ltb (least (2 ^ n) makes) (2 ^ n) (omega arith) in
+      let r = rw b at e in
+      let z : _≡_ {A = ℕ} 0 1 = cc in
+      omega arith

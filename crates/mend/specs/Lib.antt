@@ -1,6 +1,5 @@
 -- The burst for two sums: what the window fit, the strips, the search and the report answer.
-pub mod Usable
 pub mod Window
 pub mod Strip
-pub mod Found
 pub mod Report
+pub mod Found

@@ -7,16 +7,15 @@
 --   fitsOn            the H sum on a strip is the one that is asked for
 --   laidDigit b2 a x  the digits of the pattern by columns: digit r × b2 + d is that of row r and the remainder of column a + d
 --   boxPattern        the number with these digits
---   OnStrips          the burst on the first strip on which the pattern has the H sum, or there is none
-use Prim.Native.Nat.{ℕ, _+_, _*_, _/_, _%_, _≤_}
-use mathlib.Core.Path.{_≡_}
-use mathlib.Core.Bool.{Bool}
+--   onStrips          the burst on the first strip on which the pattern has the H sum, or Nothing
+use Prim.Native.Nat.{ℕ, _+_, _-_, _*_, _/_, _%_, _≤_}
+use mathlib.Core.Bool.{Bool, cond}
 use mathlib.Core.List.{List}
-use lib.Dec.{eqb}
+use lib.Dec.{eqb, ltb}
 use lib.ListN.{getD}
 use Rattle.gf2.specs.Xor.{pick}
 use Rattle.gf2.specs.Sum.{xorSum}
-use Rattle.finite.specs.Search.{bit, numberOf}
+use Rattle.finite.specs.Search.{bit, least, numberOf}
 use Rattle.plan.specs.declared.header.Header.{Header}
 use Rattle.mend.specs.declared.found.Found.{Found}
 use Rattle.mend.specs.declared.found.Found.the-variants.{Burst, Nothing}
@@ -54,7 +53,8 @@ laidDigit b2 a x k = bit x (k / b2 * b2 + (a + k % b2) % b2)
 unfoldable pub boxPattern : ℕ → ℕ → ℕ → ℕ → ℕ
 boxPattern b1 b2 a x = numberOf (b1 * b2) (laidDigit b2 a x)
 
-abbrev pub OnStrips : Header → (ℕ → ℕ) → ℕ → ℕ → ℕ → Found → Type 0
-OnStrips h entry i x s (Burst top left y) =
-    (top ≡ i) × (left + h .b2 ≤ h .n2) × (laidSum (h .b1) (h .b2) entry i left x ≡ s) × (y ≡ boxPattern (h .b1) (h .b2) left x)
-OnStrips h entry i x s Nothing = (a : ℕ) → a + h .b2 ≤ h .n2 → laidSum (h .b1) (h .b2) entry i a x ≡ s → ⊥
+unfoldable pub onStrips : Header → (ℕ → ℕ) → ℕ → ℕ → ℕ → Found
+onStrips h entry i x s =
+    let n = h .n2 - h .b2 + 1 in
+    let a = least n (fitsOn (h .b1) (h .b2) entry i x s) in
+    cond (ltb a n) (Burst i a (boxPattern (h .b1) (h .b2) a x)) Nothing

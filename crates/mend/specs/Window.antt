@@ -2,18 +2,20 @@
 --
 --   windowEntries c i      the V entries of the window at row i, b1 × b2 of them
 --   Gathered c i words     an array that begins with them
---   inWindow c i m         the choice m among these entries, as positions of the row table
---   windowSum c i m        its V sum. Pattern number x is the choice `bit x`: digit r × b2 + t stands for row i + r and remainder t
---   FitFor c i v r         r is the pattern of the window whose V sum is v, or there is none
-use Prim.Native.Nat.{ℕ, _+_, _-_, _*_, _^_, _<_}
+--   windowSum c i m        the V sum of a choice m among them. Pattern number x is the choice `bit x`: digit r × b2 + t stands
+--                          for row i + r and remainder t
+--   firstFit c i v         the first pattern by number whose V sum is v, or Nothing
+use Prim.Native.Nat.{ℕ, _+_, _*_}
 use mathlib.Core.Path.{_≡_}
-use mathlib.Core.Bool.{Bool, true, _&&_}
+use mathlib.Core.Bool.{Bool, true, cond}
 use mathlib.Core.List.{List}
+use lib.Dec.{eqb, ltb}
 use lib.ListN.{length, take}
 use Rattle.gf2.specs.Sum.{chosenSum}
 use Rattle.gf2.specs.Vectors.{listed}
-use Rattle.finite.specs.Search.{bit, within}
+use Rattle.finite.specs.Search.{bit, least}
 use Rattle.boxcode.specs.Code.{Code}
+use Rattle.boxcode.specs.Burst.{patterns}
 use Rattle.mend.specs.declared.fit.Fit.{Fit}
 use Rattle.mend.specs.declared.fit.Fit.the-variants.{Pattern, Nothing}
 
@@ -28,12 +30,11 @@ pub record Gathered (c : Code) (i : ℕ) (words : List ℕ) : Type 0 where
   pub size : length words ≡ 16
   pub entries : take (c .b1 * c .b2) words ≡ windowEntries c i
 
-unfoldable pub inWindow : Code → ℕ → (ℕ → Bool) → ℕ → Bool
-inWindow c i m k = within (i * c .b2) (c .b1 * c .b2) k && m (k - i * c .b2)
-
 unfoldable pub windowSum : Code → ℕ → (ℕ → Bool) → ℕ
 windowSum c i m = chosenSum (c .b1 * c .b2) m (entryAt c i)
 
-abbrev pub FitFor : Code → ℕ → ℕ → Fit → Type 0
-FitFor c i v (Pattern x) = (x < 2 ^ (c .b1 * c .b2)) × (windowSum c i (bit x) ≡ v)
-FitFor c i v Nothing = (m : ℕ → Bool) → windowSum c i m ≡ v → ⊥
+-- 01: only a found pattern goes on to the strips; where a window has none, the next is tried, and 14 is told after the last
+unfoldable pub firstFit : Code → ℕ → ℕ → Fit
+firstFit c i v =
+    let x = least (patterns c) (λ x. eqb (windowSum c i (bit x)) v) in
+    cond (ltb x (patterns c)) (Pattern x) Nothing

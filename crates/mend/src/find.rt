@@ -2,7 +2,7 @@
 // (proofs/Decision.antt), so only the strips of this one are tried.
 ghost use Rattle.plan.specs.Bytes.{codeWith};
 ghost use Rattle.plan.specs.Table.{Unpacked};
-ghost use Rattle.mend.specs.Usable.{Usable};
+ghost use Rattle.plan.specs.Accepted.{AcceptedWith};
 ghost use Rattle.mend.specs.Found.{FoundFor};
 use crate::fit::Fit;
 use crate::fit::window_fit;
@@ -12,7 +12,7 @@ use plan::header::Header;
 
 // The search over the windows: a fit that fails leaves early, and only a pattern goes on to the strips.
 fn search(plan: &[u8], h: Header, columns: &[u64], v: u64, s: u64) -> Found
-    requires { ⌜ Usable (now plan) h ⌝ }
+    requires { ⌜ AcceptedWith (now plan) h ⌝ }
     requires { ⌜ Unpacked (now plan) h (now columns) ⌝ }
     ensures { λ r. ⌜ FoundFor (codeWith (now (plan .entry)) h) v s r ⌝ }
 {
@@ -29,7 +29,7 @@ fn search(plan: &[u8], h: Header, columns: &[u64], v: u64, s: u64) -> Found
 // The burst whose V sum is v and whose H sum is s, under an accepted plan with its column table unpacked.
 // Every window has the empty pattern, so a V sum of 0 is no matter of a search: only the empty burst has it, and its H sum is 0.
 pub fn find(plan: &[u8], h: Header, columns: &[u64], v: u64, s: u64) -> Found
-    requires { ⌜ Usable (now plan) h ⌝ }
+    requires { ⌜ AcceptedWith (now plan) h ⌝ }
     requires { ⌜ Unpacked (now plan) h (now columns) ⌝ }
     ensures { λ r. ⌜ FoundFor (codeWith (now (plan .entry)) h) v s r ⌝ }
 {

@@ -1,9 +1,10 @@
 // The window fit: the pattern in a window, b1 consecutive rows, that makes the V sum.
+ghost use mathlib.Core.Path.{_≡_};
 ghost use Prim.Native.Nat.{_+_, _≤_, _<_};
 ghost use Rattle.plan.specs.Header.{Framed};
 ghost use Rattle.plan.specs.Bytes.{codeWith};
-ghost use Rattle.mend.specs.Usable.{Usable};
-ghost use Rattle.mend.specs.Window.{Gathered, FitFor};
+ghost use Rattle.plan.specs.Accepted.{AcceptedWith};
+ghost use Rattle.mend.specs.Window.{Gathered, firstFit};
 use gf2::Solution;
 use gf2::solve;
 use gf2::solver_of;
@@ -35,9 +36,9 @@ fn gather(plan: &[u8], h: Header, i: usize) -> [u64; 16]
 
 // The pattern in the window at row i whose V sum is v.
 pub fn window_fit(plan: &[u8], h: Header, i: usize, v: u64) -> Fit
-    requires { ⌜ Usable (now plan) h ⌝ }
+    requires { ⌜ AcceptedWith (now plan) h ⌝ }
     requires { ⌜ i + h .b1 ≤ h .n1 ⌝ }
-    ensures { λ r. ⌜ FitFor (codeWith (now (plan .entry)) h) i v r ⌝ }
+    ensures { λ r. ⌜ r ≡ firstFit (codeWith (now (plan .entry)) h) i v ⌝ }
 {
     let words = gather(plan, h, i);
     let size = h.b1 * h.b2;

@@ -8,8 +8,9 @@ ghost use lib.ListN.{length};
 ghost use Rattle.gf2.specs.Xor.{pick};
 ghost use Rattle.finite.specs.Search.{bit, least};
 ghost use Rattle.plan.specs.Header.{Small};
-ghost use Rattle.mend.specs.Strip.{BurstSize, wordAt, laidRow, laidSum, fitsOn, laidDigit, boxPattern, OnStrips};
+ghost use Rattle.mend.specs.Strip.{BurstSize, wordAt, laidRow, laidSum, fitsOn, laidDigit, boxPattern, onStrips};
 use crate::found::Found;
+use layout::cycle::after;
 use plan::header::Header;
 
 // The entry where digit k of the pattern is set, else 0.
@@ -18,15 +19,6 @@ fn picked(x: u64, k: usize, entry: u64) -> u64
     ensures { λ r. ⌜ r ≡ pick (bit x k) entry ⌝ }
 {
     if (x >> k) % 2 == 1 { entry } else { 0 }
-}
-
-// The remainder after t modulo b.
-fn after(t: usize, b: usize) -> usize
-    requires { ⌜ t < b ⌝ }
-    ensures { λ r. ⌜ r ≡ (t + 1) % b ⌝ }
-{
-    let next = t + 1;
-    if next == b { 0 } else { next }
 }
 
 // The H sum of one row of the pattern, whose digits begin at first, on the strip at column a. u is the row's remainder modulo b1.
@@ -113,7 +105,7 @@ pub fn box_pattern(b1: usize, b2: usize, a: usize, x: u64) -> u64
 pub fn on_strips(columns: &[u64], h: Header, i: usize, x: u64, s: u64) -> Found
     requires { ⌜ Small h ⌝ }
     requires { ⌜ h .n2 * h .b1 ≤ length (now columns) ⌝ }
-    ensures { λ r. ⌜ OnStrips h (wordAt (now (columns .entry))) i x s r ⌝ }
+    ensures { λ r. ⌜ r ≡ onStrips h (wordAt (now (columns .entry))) i x s ⌝ }
 {
     let a = first_strip(columns, h, i, x, s);
     if h.n2 - h.b2 < a {

@@ -24,7 +24,7 @@ use Rattle.finite.proofs.Count.{count-le}
 use Rattle.boxcode.specs.Code.{Code, Formed, cellNumber}
 use Rattle.boxcode.specs.Syndrome.{Cells}
 use Rattle.boxcode.specs.Check.{checkNumber, checkAt, dataOrder, dataSize, rank, dataOf}
-use Rattle.boxcode.proofs.Check.{order-below, order-twice, check-here, check-found, rank-below}
+use Rattle.boxcode.proofs.Check.{order-below, order-twice, check-rise, check-here, check-found, rank-below}
 use Rattle.boxcode.proofs.Fill.{cell-data}
 use Rattle.payload.specs.declared.cursor.Cursor.{Cursor}
 use Rattle.payload.specs.Walk.{nextCheck, atCheck, At}
@@ -57,24 +57,6 @@ module _ (c : Code) where
   }
 
 module _ (c : Code) (F : Formed c) where
-  check-rise : (k l : ℕ) → k < l → l < c .rv + c .rh → checkNumber c k < checkNumber c l
-  unfolding checkNumber
-  check-rise k zero h b = absurd (omega arith)
-  check-rise k (suc l) h b = go (ℕ-discrete k l) (check-rise k l)
-    where
-      up : checkNumber c l < checkNumber c (suc l)
-      up = F .check-rising l b
-
-      go : Dec (k ≡ l) → (k < l → l < c .rv + c .rh → checkNumber c k < checkNumber c l) → checkNumber c k < checkNumber c (suc l)
-      go (yes e) ih =
-          let u = up in
-          let q : checkNumber c k ≡ checkNumber c l = ap (checkNumber c) e in
-          omega arith
-      go (no ne) ih =
-          let u = up in
-          let q : checkNumber c k < checkNumber c l = ih (omega arith) (omega arith) in
-          omega arith
-
   -- ---- where the cursor stands
 
   module _ (r : Cursor) (A : At c r) (l : r .cell < c .n1 * c .n2) where
@@ -124,7 +106,7 @@ module _ (c : Code) (F : Formed c) where
                     ne (sym e ∙ sym n)
                 listed k lk e (no h) (no q) =
                     let n : r .next ≡ checkNumber c (r .check) = A .next-is ∙ next-here c (r .check) (omega arith) in
-                    let u : checkNumber c (r .check) < checkNumber c k = check-rise (r .check) k (omega arith) lk in
+                    let u : checkNumber c (r .check) < checkNumber c k = check-rise c F (r .check) k (omega arith) lk in
                     let a = A .ahead in
                     omega arith
 
@@ -208,7 +190,7 @@ module _ (c : Code) (F : Formed c) where
         further : r .cell ≡ checkNumber c (r .check) → r .check < c .rv + c .rh → Dec (r .check + 1 < c .rv + c .rh) → r .cell + 1 ≤ next
         further here left (yes h) =
             let n : next ≡ checkNumber c (r .check + 1) = en ∙ next-here c (r .check + 1) h in
-            let u : checkNumber c (r .check) < checkNumber c (r .check + 1) = check-rise (r .check) (r .check + 1) (omega arith) h in
+            let u : checkNumber c (r .check) < checkNumber c (r .check + 1) = check-rise c F (r .check) (r .check + 1) (omega arith) h in
             omega arith
         further here left (no h) =
             let n : next ≡ c .n1 * c .n2 = en ∙ next-past c (r .check + 1) (omega arith) in

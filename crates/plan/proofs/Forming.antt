@@ -56,7 +56,7 @@ header-passes s F =
       eq-eqb (h .rows) headerLength (F .rows-at),
       eq-eqb (h .columns) (columnsStart h) (F .columns-at),
       eq-eqb (h .checks) (checksStart h) (F .checks-at),
-      eq-eqb (h .length) (planLength h) (F .length-at),
+      eq-eqb (h .total) (planLength h) (F .total-at),
       eq-eqb (length s) (planLength h) (F .long),
     ) in
     passes (ltb (length s) headerLength) _ _ (le-ltb (length s) headerLength (omega (arith, F .long)))

@@ -76,14 +76,14 @@ framed s e =
     let widths = else-zero (verdictIf (badWidths h) (refusal 4 0 0)) (verdictIf (badOffsets (length s) h) (refusal 5 0 0)) (sheet .1) in
     let offsets = or-false _ (not (eqb (length s) (planLength h))) (if-zero (badOffsets (length s) h) 4 0 0 (widths .1)) in
     let three = four (not (eqb (h .rows) headerLength)) (not (eqb (h .columns) (columnsStart h))) (not (eqb (h .checks) (checksStart h)))
-    (not (eqb (h .length) (planLength h))) (offsets .0) in
+    (not (eqb (h .total) (planLength h))) (offsets .0) in
     record {
       is = refl;
       small = small h (if-zero (badBurst h) 1 0 0 (burst .0)) (if-zero (badSheet h) 2 0 0 (sheet .0)) (if-zero (badWidths h) 3 0 0 (widths .0));
       rows-at = same (h .rows) headerLength (three .0);
       columns-at = same (h .columns) (columnsStart h) (three .1);
       checks-at = same (h .checks) (checksStart h) (three .2);
-      length-at = same (h .length) (planLength h) (three .3);
+      total-at = same (h .total) (planLength h) (three .3);
       long = same (length s) (planLength h) (offsets .1);
     }
 

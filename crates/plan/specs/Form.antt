@@ -36,7 +36,7 @@ badWidths h = eqb (h .rv) 0 || ltb 32 (h .rv) || eqb (h .rh) 0 || ltb 32 (h .rh)
 unfoldable pub badOffsets : ℕ → Header → Bool
 badOffsets size h =
     not (eqb (h .rows) headerLength) || not (eqb (h .columns) (columnsStart h)) || not (eqb (h .checks) (checksStart h))
-    || not (eqb (h .length) (planLength h)) || not (eqb size (planLength h))
+    || not (eqb (h .total) (planLength h)) || not (eqb size (planLength h))
 
 -- checks 2 to 5 of a plan of size bytes
 unfoldable pub fieldsVerdict : ℕ → Header → Verdict

@@ -1,7 +1,7 @@
 -- The header of a plan (document 01, "Plan bytes"), and where the tables must stand.
 --
 --   headerLength   the number of bytes of the header
---   headerOf       the ten numbers of the header
+--   headerOf       the ten numbers of the header; total is the length of the plan
 --   columnsStart, checksStart, planLength   where the column table and the check list begin and the plan ends, by the rule
 --   Small h        checks 2 to 4 hold
 --   Framed s h     h is the header of the plan s, and checks 1 to 5 hold: what every later step starts from
@@ -26,7 +26,7 @@ headerOf s = record {
   rows = u16At s 12;
   columns = u16At s 14;
   checks = u16At s 16;
-  length = u16At s 18;
+  total = u16At s 18;
 }
 
 abbrev pub columnsStart : Header → ℕ
@@ -62,5 +62,5 @@ pub record Framed (s : List ℕ) (h : Header) : Type 0 where
   pub rows-at : h .rows ≡ headerLength
   pub columns-at : h .columns ≡ columnsStart h
   pub checks-at : h .checks ≡ checksStart h
-  pub length-at : h .length ≡ planLength h
+  pub total-at : h .total ≡ planLength h
   pub long : length s ≡ planLength h

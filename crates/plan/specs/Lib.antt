@@ -2,5 +2,6 @@
 pub mod Verdict
 pub mod Header
 pub mod Bytes
+pub mod Accepted
 pub mod Form
 pub mod Table

@@ -49,7 +49,7 @@ fn bad_offsets(size: usize, h: Header) -> bool
     (h.rows != LENGTH)
         | (h.columns != columns)
         | (h.checks != checks)
-        | (h.length != end)
+        | (h.total != end)
         | (size != end)
 }
 

@@ -18,7 +18,7 @@ pub struct Header {
     pub rows: usize,
     pub columns: usize,
     pub checks: usize,
-    pub length: usize,
+    pub total: usize,
 }
 
 // The header of a plan that has one. Others look at it through a view.
@@ -36,6 +36,6 @@ pub(crate) fn read(plan: &[u8]) -> Header
         rows: u16_at(plan, 12),
         columns: u16_at(plan, 14),
         checks: u16_at(plan, 16),
-        length: u16_at(plan, 18),
+        total: u16_at(plan, 18),
     }
 }

@@ -26,7 +26,8 @@ use Rattle.accept.specs.Verdict.{Accepted}
 use Rattle.buffers.specs.Buffers.{readChecks}
 use Rattle.buffers.proofs.Passing.{reads-pass}
 use Rattle.mend.specs.Report.{reportAs}
-use Rattle.reader.specs.Read.{refused, taken, readVerdict, sheetRead, bitsRead, reportRead, readOutcome}
+use Rattle.mend.proofs.First.{first-verdict, first-report, first-none}
+use Rattle.reader.specs.Read.{refused, taken, burstIn, readVerdict, sheetRead, bitsRead, reportRead, readOutcome}
 use Rattle.promise.specs.Promise.{SheetFor, BufferFor, BurstOn, FitsOn, NoneFits, SomeFits, cellsOf, dataIn, corrupted, readAs}
 use Rattle.promise.proofs.Corrupted.{corrupted-cell, fits-cells, cells-fit}
 
@@ -41,12 +42,12 @@ module _ (plan : List ℕ) (A : Accepted plan) (sheet old : List ℕ) (form : Sh
   checks = reads-pass plan sheet old (record { accepted = A; sheet-size = form .size; bits-size = l; form = form })
 
   pub reads-mended : mendable c s ≡ true → readOutcome plan sheet old ≡ taken c sheet
-  unfolding readOutcome readVerdict _orElse_
-  reads-mended t = rw (checks, t)
+  unfolding readOutcome readVerdict _orElse_ burstIn mendable
+  reads-mended t = rw (checks, first-verdict c _ _ t)
 
   pub reads-refused : mendable c s ≡ false → readOutcome plan sheet old ≡ refused (refusal 14 0 0) sheet old
-  unfolding readOutcome readVerdict _orElse_
-  reads-refused t = rw (checks, t)
+  unfolding readOutcome readVerdict _orElse_ burstIn mendable
+  reads-refused t = rw (checks, first-none c _ _ t)
 
   pub refused-as : NoneFits plan sheet → readOutcome plan sheet old ≡ refused (refusal 14 0 0) sheet old
   refused-as h =
@@ -69,8 +70,12 @@ module _ (plan : List ℕ) (A : Accepted plan) (sheet old : List ℕ) (form : Sh
     unfolding mended
     mended-cells i j li lj = ap (xor (s i j)) (changed i j)
 
-    same-report : reportOf c (change c s) ≡ reportOf c e
-    same-report = report-cells c (change c s) e (λ i j li lj. changed i j)
+    mends : mendable c s ≡ true
+    mends = mendable-iff c (A .formed) s .1 (e, B, fits-cells plan sheet e f)
+
+    same-report : reportRead c sheet ≡ reportAs (reportOf c e)
+    unfolding reportRead burstIn mendable change
+    same-report = first-report c _ _ mends ∙ ap reportAs (report-cells c (change c s) e (λ i j li lj. changed i j))
 
     same-sheet : sheetRead c sheet ≡ corrupted plan sheet e
     unfolding sheetRead corrupted
@@ -84,7 +89,4 @@ module _ (plan : List ℕ) (A : Accepted plan) (sheet old : List ℕ) (form : Sh
         (λ i d li ld. data-cells c (A .formed) (mended c s) t (λ i j li lj. mended-cells i j li lj ∙ sym (corrupted-cell plan sheet e i j li lj)) d ld)
 
     pub taken-as : readOutcome plan sheet old ≡ readAs (reportOf c e) (corrupted plan sheet e) (dataIn plan (corrupted plan sheet e))
-    unfolding reportRead
-    taken-as =
-        reads-mended (mendable-iff c (A .formed) s .1 (e, B, fits-cells plan sheet e f))
-        ∙ λ i. record { verdict = accepted; report = reportAs (same-report i); sheet = same-sheet i; bits = same-bits i }
+    taken-as = reads-mended mends ∙ λ i. record { verdict = accepted; report = same-report i; sheet = same-sheet i; bits = same-bits i }

@@ -34,7 +34,7 @@ use Rattle.layout.specs.Cells.{rowBytes, sheetBytes, cellOf, RightForm, bytesOf
 use Rattle.boxcode.specs.Syndrome.{Cells, Belongs, flip}
 use Rattle.boxcode.specs.Burst.{Inside, Burst}
 use Rattle.boxcode.specs.Check.{dataSize, dataOf}
-use Rattle.boxcode.specs.Reader.{Report, cellsIn, reportOf}
+use Rattle.boxcode.specs.Reader.{Report, cellCount, reportOf}
 use Rattle.plan.specs.Verdict.{accepted, refusal}
 use Rattle.plan.specs.Bytes.{codeOf}
 use Rattle.accept.specs.Verdict.{planVerdict, Accepted}
@@ -153,7 +153,7 @@ pub record Within (r : Report) (top left height width : ℕ) : Type 0 where
   pub past : r .left + r .width ≤ left + width
 
 pub record Reported (plan : List ℕ) (e : Cells) (r : Report) : Type 0 where
-  pub count : r .cells ≡ cellsIn (codeOf plan .n1) (codeOf plan .n2) e
+  pub count : r .cells ≡ cellCount (codeOf plan .n1) (codeOf plan .n2) e
   pub holds : Inside (r .top) (r .left) (r .height) (r .width) e
   -- for a burst that has a cell (i, j)
   pub least : (i j : ℕ) → e i j ≡ true → (top left height width : ℕ) → Inside top left height width e → Within r top left height width

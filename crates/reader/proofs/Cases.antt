@@ -4,22 +4,22 @@
 --
 -- Assumes nothing.
 use mathlib.Core.Path.{_≡_}
-use mathlib.Core.Bool.{true, not}
+use mathlib.Core.Bool.{true}
 use mathlib.Core.List.{List}
 use Prim.Native.Nat.{ℕ}
-use borrow.Author.Tests.{not-false}
 use Rattle.layout.specs.Cells.{cellOf}
 use Rattle.boxcode.specs.Reader.{mendable}
 use Rattle.plan.specs.Bytes.{codeOf}
-use Rattle.plan.proofs.Sequence.{else-zero, if-zero}
+use Rattle.plan.proofs.Sequence.{else-zero}
 use Rattle.buffers.specs.Buffers.{readChecks, Reads}
 use Rattle.buffers.proofs.Passing.{read-zero}
-use Rattle.reader.specs.Read.{readVerdict}
+use Rattle.mend.proofs.First.{first-has}
+use Rattle.reader.specs.Read.{burstIn, readVerdict}
 
 module _ (plan sheet bits : List ℕ) where
   pub zero-reads : readVerdict plan sheet bits .number ≡ 0
       → Reads plan sheet bits × (mendable (codeOf plan) (cellOf (codeOf plan .n2) sheet) ≡ true)
-  unfolding readVerdict
+  unfolding readVerdict burstIn mendable
   zero-reads e =
       let z = else-zero (readChecks plan sheet bits) _ e in
-      (read-zero plan sheet bits (z .0), not-false _ (if-zero (not (mendable (codeOf plan) (cellOf (codeOf plan .n2) sheet))) 13 0 0 (z .1)))
+      (read-zero plan sheet bits (z .0), first-has (codeOf plan) _ _ (z .1))

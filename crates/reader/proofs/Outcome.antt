@@ -6,47 +6,43 @@
 --   burst-on            the rectangle of a burst that was found lies on the sheet
 --   burst-sheet, burst-bits, burst-report   turning it over gives the mended sheet; the data of those bytes; its report
 --   burst-taken         all of a read that succeeds
---   usable              an accepted plan can be mended under
+--   accepted-with       an accepted plan, with its header
 --
 -- Assumes nothing.
 use mathlib.Core.Path.{_≡_, refl, sym, ap, _∙_}
-use mathlib.Core.Bool.{Bool, true, false, xor, not, cond}
+use mathlib.Core.Bool.{xor}
 use mathlib.Core.List.{List}
 use Prim.Native.Nat.{ℕ}
 use borrow.Author.Tests.{ne-eqb}
-use lib.Dec.{eqb}
 use Rattle.layout.specs.Cells.{RightForm, cellOf, bytesOf}
 use Rattle.layout.proofs.Form.{bytes-cell, bytes-equal}
 use Rattle.boxcode.specs.Code.{Code, Formed}
 use Rattle.boxcode.specs.Syndrome.{flip, rowSyndrome, columnSyndrome}
-use Rattle.boxcode.specs.Burst.{boxCells, hasBurst}
+use Rattle.boxcode.specs.Burst.{boxCells}
 use Rattle.boxcode.specs.Check.{dataSize, dataOf}
-use Rattle.boxcode.specs.Reader.{mendable, change, mended}
+use Rattle.boxcode.specs.Reader.{change, mended}
 use Rattle.boxcode.proofs.Fill.{data-cells}
 use Rattle.plan.specs.declared.header.Header.{Header}
 use Rattle.plan.specs.declared.verdict.Verdict.{Verdict}
-use Rattle.plan.specs.Verdict.{accepted, refusal, verdictIf}
+use Rattle.plan.specs.Verdict.{accepted, refusal}
 use Rattle.plan.specs.Header.{headerOf}
 use Rattle.plan.specs.Bytes.{codeOf}
 use Rattle.plan.proofs.Sequence.{else-first, else-second}
 use Rattle.accept.specs.Verdict.{Accepted}
 use Rattle.buffers.specs.Buffers.{readChecks}
 use Rattle.mend.specs.declared.report.Report.{Report}
-use Rattle.mend.specs.Usable.{Usable}
-use Rattle.mend.specs.Found.{IsBurst}
+use Rattle.plan.specs.Accepted.{AcceptedWith}
+use Rattle.mend.specs.declared.found.Found.{Found}
+use Rattle.mend.specs.declared.found.Found.the-variants.{Burst, Nothing}
+use Rattle.mend.specs.Found.{foundVerdict, IsBurst, FoundFor}
 use Rattle.mend.specs.Report.{boxReport, reportAs}
+use Rattle.mend.proofs.First.{first-report}
 use Rattle.mend.proofs.Rectangle.{found-report}
 use Rattle.reader.specs.Turn.{Rectangle, boxTurned}
-use Rattle.reader.specs.Read.{Outcome, readVerdict, sheetRead, bitsRead, reportRead, refused, taken, mendOutcome, readOutcome}
+use Rattle.reader.specs.Read.{Outcome, burstIn, readVerdict, sheetRead, bitsRead, reportRead, refused, taken, mendOutcome, readOutcome}
 use Rattle.reader.proofs.Turned.{box-turned}
 
 -- ---- which checks decide
-
--- check 14 as a verdict and as a choice
-decided : (m : Bool) (o : Outcome) (sheet bits : List ℕ) → cond m o (refused (refusal 14 0 0) sheet bits)
-    ≡ cond (eqb (verdictIf (not m) (refusal 14 0 0) .number) 0) o (refused (verdictIf (not m) (refusal 14 0 0)) sheet bits)
-decided true o sheet bits = refl
-decided false o sheet bits = refl
 
 module _ (plan sheet bits : List ℕ) where
   pub read-refuses : (readChecks plan sheet bits .number ≡ 0 → ⊥) → refused (readChecks plan sheet bits) sheet bits ≡ readOutcome plan sheet bits
@@ -55,20 +51,20 @@ module _ (plan sheet bits : List ℕ) where
 
   pub read-mends : readChecks plan sheet bits .number ≡ 0 → mendOutcome (codeOf plan) sheet bits ≡ readOutcome plan sheet bits
   unfolding readOutcome readVerdict mendOutcome
-  read-mends e =
-      rw (else-second (readChecks plan sheet bits) (verdictIf (not (mendable (codeOf plan) (cellOf (codeOf plan .n2) sheet))) (refusal 14 0 0)) e)
-      (decided (mendable (codeOf plan) (cellOf (codeOf plan .n2) sheet)) (taken (codeOf plan) sheet) sheet bits)
+  read-mends e = rw (else-second (readChecks plan sheet bits) (foundVerdict (burstIn (codeOf plan) sheet)) e)
+
+-- the sums of the sheet are asked for
+abbrev FoundIn : Code → List ℕ → Found → Type 0
+FoundIn c sheet r = FoundFor c (rowSyndrome c (cellOf (c .n2) sheet)) (columnSyndrome c (cellOf (c .n2) sheet)) r
 
 module _ (c : Code) (sheet bits : List ℕ) where
-  pub mend-none : hasBurst c (rowSyndrome c (cellOf (c .n2) sheet)) (columnSyndrome c (cellOf (c .n2) sheet)) ≡ false
-      → refused (refusal 14 0 0) sheet bits ≡ mendOutcome c sheet bits
-  unfolding mendOutcome mendable
-  mend-none e = rw e
+  pub mend-none : FoundIn c sheet Nothing → refused (refusal 14 0 0) sheet bits ≡ mendOutcome c sheet bits
+  unfolding mendOutcome burstIn
+  mend-none f = rw (← f .verdict)
 
-  pub mend-some : hasBurst c (rowSyndrome c (cellOf (c .n2) sheet)) (columnSyndrome c (cellOf (c .n2) sheet)) ≡ true
-      → taken c sheet ≡ mendOutcome c sheet bits
-  unfolding mendOutcome mendable
-  mend-some e = rw e
+  pub mend-some : (top left x : ℕ) → FoundIn c sheet (Burst top left x) → taken c sheet ≡ mendOutcome c sheet bits
+  unfolding mendOutcome burstIn
+  mend-some top left x f = rw (← f .verdict)
 
 -- ---- the burst that was found
 
@@ -95,8 +91,8 @@ module _ (c : Code) (F : Formed c) (s : List ℕ) (f : RightForm (c .n1) (c .n2)
       (λ i j li lj. ap (xor (cellOf (c .n2) s i j)) (b .cells i j))
 
   pub burst-report : reportAs (boxReport top left (c .b1) (c .b2) x) ≡ reportRead c s
-  unfolding reportRead change
-  burst-report = ap reportAs (sym (found-report c F _ _ top left x b))
+  unfolding reportRead burstIn
+  burst-report = ap reportAs (sym (found-report c F _ _ top left x b)) ∙ sym (first-report c _ _ (b .has))
 
   pub burst-taken : (v : Verdict) (r : Report) (t u : List ℕ) → v ≡ accepted → r ≡ reportAs (boxReport top left (c .b1) (c .b2) x)
       → t ≡ boxTurned (c .n2) s top left (c .b1) (c .b2) x → u ≡ bytesOf 1 (dataSize c) (λ i d. dataOf c (cellOf (c .n2) t) d)
@@ -109,6 +105,6 @@ module _ (c : Code) (F : Formed c) (s : List ℕ) (f : RightForm (c .n1) (c .n2)
 
 -- ---- an accepted plan
 
-pub usable : (plan : List ℕ) (h : Header) → h ≡ headerOf plan → Accepted plan → Usable plan h
+pub accepted-with : (plan : List ℕ) (h : Header) → h ≡ headerOf plan → Accepted plan → AcceptedWith plan h
 unfolding codeOf
-usable plan h e A = rw e (record { framed = A .framed; formed = A .formed; conditions = A .conditions })
+accepted-with plan h e A = rw e (record { framed = A .framed; formed = A .formed; conditions = A .conditions })

@@ -23,18 +23,13 @@ use Rattle.finite.specs.Search.{bit}
 use Rattle.finite.proofs.Truth.{Truth, is-true, is-false, true-or-false, xor-none, in-within}
 use Rattle.layout.specs.Cells.{RightForm, cellOf, bytesOf, turned, turnedIf}
 use Rattle.layout.proofs.Form.{same-bytes, bytes-form, bytes-cell}
-use Rattle.layout.proofs.Turned.{turned-form, turned-cell}
+use Rattle.layout.proofs.Turned.{turned-form, turned-cell, turned-if-length}
 use Rattle.boxcode.specs.Syndrome.{Cells, flip}
 use Rattle.boxcode.specs.Burst.{boxCells}
 use Rattle.boxcode.proofs.Trial.{box-inside}
 use Rattle.reader.specs.Turn.{Rectangle, digitsTurned, boxTurned}
 
 -- ---- one cell, if it is asked for
-
-if-length : (b : Bool) (n2 : ℕ) (s : List ℕ) (i j : ℕ) → length (turnedIf b n2 s i j) ≡ length s
-unfolding turned
-if-length true n2 s i j = simp length-set
-if-length false n2 s i j = refl
 
 module _ (n1 n2 : ℕ) (s : List ℕ) (f : RightForm n1 n2 s) (i j : ℕ) (li : i < n1) (lj : j < n2) where
   if-form : (b : Bool) → RightForm n1 n2 (turnedIf b n2 s i j)
@@ -60,7 +55,7 @@ pub digits-length : (n2 : ℕ) (s : List ℕ) (top left b2 x n : ℕ) → length
 unfolding digitsTurned
 digits-length n2 s top left b2 x zero = refl
 digits-length n2 s top left b2 x (suc k) =
-    if-length (bit x k) n2 (digitsTurned n2 s top left b2 x k) (top + k / b2) (left + k % b2) ∙ digits-length n2 s top left b2 x k
+    turned-if-length (bit x k) n2 (digitsTurned n2 s top left b2 x k) (top + k / b2) (left + k % b2) ∙ digits-length n2 s top left b2 x k
 
 pub digits-none : (n2 : ℕ) (s : List ℕ) (top left b2 x : ℕ) → s ≡ digitsTurned n2 s top left b2 x 0
 unfolding digitsTurned

@@ -1,7 +1,8 @@
 -- The read of one sheet (document 01, "Turned back"), as one function of the plan, the sheet and the data buffer to the
 -- answer and every byte of both buffers after the call. It owes nothing to the way in which a burst is found.
 --
---   readVerdict    checks 1 to 13, and then 14: no burst brings both sums to 0
+--   burstIn        the first burst by trial that brings both sums to 0, or Nothing
+--   readVerdict    checks 1 to 13, and then 14, which is told where there is no such burst
 --   sheetRead      the sheet after a read that succeeds: mended
 --   bitsRead       the data buffer after it: the data of the mended sheet
 --   reportRead     its report: the cells that were turned over
@@ -12,25 +13,29 @@
 --   readOutcome    the read of one sheet
 --   outcome        an answer of the code with the buffers after it, as an outcome
 use Prim.Native.Nat.{ℕ}
-use mathlib.Core.Bool.{not, cond}
+use mathlib.Core.Bool.{cond}
 use mathlib.Core.List.{List}
 use lib.Dec.{eqb}
 use Rattle.layout.specs.Cells.{cellOf, bytesOf}
 use Rattle.boxcode.specs.Code.{Code}
 use Rattle.boxcode.specs.Check.{dataSize, dataOf}
-use Rattle.boxcode.specs.Reader.{mendable, change, mended, reportOf}
+use Rattle.boxcode.specs.Syndrome.{rowSyndrome, columnSyndrome}
+use Rattle.boxcode.specs.Reader.{mended}
 use Rattle.plan.specs.declared.verdict.Verdict.{Verdict}
-use Rattle.plan.specs.Verdict.{accepted, refusal, verdictIf, _orElse_}
+use Rattle.plan.specs.Verdict.{accepted, _orElse_}
 use Rattle.plan.specs.Bytes.{codeOf}
 use Rattle.buffers.specs.Buffers.{readChecks}
 use Rattle.mend.specs.declared.report.Report.{Report}
 use Rattle.mend.specs.Report.{noReport, reportAs}
+use Rattle.mend.specs.declared.found.Found.{Found}
+use Rattle.mend.specs.Found.{foundVerdict, foundReport, firstBurst}
 use Rattle.reader.specs.declared.answer.Answer.{Answer}
 
+unfoldable pub burstIn : Code → List ℕ → Found
+burstIn c sheet = let s = cellOf (c .n2) sheet in firstBurst c (rowSyndrome c s) (columnSyndrome c s)
+
 unfoldable pub readVerdict : List ℕ → List ℕ → List ℕ → Verdict
-readVerdict plan sheet bits =
-    let c = codeOf plan in
-    readChecks plan sheet bits orElse verdictIf (not (mendable c (cellOf (c .n2) sheet))) (refusal 14 0 0)
+readVerdict plan sheet bits = readChecks plan sheet bits orElse foundVerdict (burstIn (codeOf plan) sheet)
 
 unfoldable pub sheetRead : Code → List ℕ → List ℕ
 sheetRead c sheet = bytesOf (c .n1) (c .n2) (mended c (cellOf (c .n2) sheet))
@@ -40,7 +45,7 @@ unfoldable pub bitsRead : Code → List ℕ → List ℕ
 bitsRead c sheet = bytesOf 1 (dataSize c) (λ i d. dataOf c (mended c (cellOf (c .n2) sheet)) d)
 
 unfoldable pub reportRead : Code → List ℕ → Report
-reportRead c sheet = reportAs (reportOf c (change c (cellOf (c .n2) sheet)))
+reportRead c sheet = foundReport c (burstIn c sheet)
 
 pub record Outcome : Type 0 where
   pub verdict : Verdict
@@ -55,7 +60,8 @@ abbrev pub taken : Code → List ℕ → Outcome
 taken c sheet = record { verdict = accepted; report = reportRead c sheet; sheet = sheetRead c sheet; bits = bitsRead c sheet }
 
 unfoldable pub mendOutcome : Code → List ℕ → List ℕ → Outcome
-mendOutcome c sheet bits = cond (mendable c (cellOf (c .n2) sheet)) (taken c sheet) (refused (refusal 14 0 0) sheet bits)
+mendOutcome c sheet bits =
+    let v = foundVerdict (burstIn c sheet) in cond (eqb (v .number) 0) (taken c sheet) (refused v sheet bits)
 
 unfoldable pub readOutcome : List ℕ → List ℕ → List ℕ → Outcome
 readOutcome plan sheet bits =

@@ -5,7 +5,7 @@ ghost use Rattle.layout.specs.Cells.{rowBytes, sheetBytes, cellOf, RightForm};
 ghost use Rattle.boxcode.specs.Syndrome.{rowSyndrome, columnSyndrome};
 ghost use Rattle.boxcode.specs.Check.{dataSize};
 ghost use Rattle.plan.specs.Bytes.{codeWith};
-ghost use Rattle.mend.specs.Usable.{Usable};
+ghost use Rattle.plan.specs.Accepted.{AcceptedWith};
 ghost use Rattle.mend.specs.Found.{FoundFor, IsBurst};
 ghost use Rattle.reader.specs.Read.{outcome, taken};
 use crate::answer::Answer;
@@ -21,7 +21,7 @@ use syndrome::gather::sums;
 
 // The burst with the two sums of a sheet, under an accepted plan.
 pub fn find_burst(plan: &[u8], h: Header, sheet: &[u8]) -> Found
-    requires { ⌜ Usable (now plan) h ⌝ }
+    requires { ⌜ AcceptedWith (now plan) h ⌝ }
     requires { ⌜ length (now sheet) ≡ sheetBytes (h .n1) (h .n2) ⌝ }
     ensures { λ r. ⌜ FoundFor (codeWith (now (plan .entry)) h) (rowSyndrome (codeWith (now (plan .entry)) h) (cellOf (h .n2) (now (sheet .entry)))) (columnSyndrome (codeWith (now (plan .entry)) h) (cellOf (h .n2) (now (sheet .entry)))) r ⌝ }
 {
@@ -40,7 +40,7 @@ pub fn apply_burst(
     left: usize,
     x: u64,
 ) -> Answer
-    requires { ⌜ Usable (now plan) h ⌝ }
+    requires { ⌜ AcceptedWith (now plan) h ⌝ }
     requires { ⌜ RightForm (h .n1) (h .n2) (now sheet) ⌝ }
     requires { ⌜ length (now bits) ≡ rowBytes (dataSize (codeWith (now plan) h)) ⌝ }
     requires { ⌜ IsBurst (codeWith (now plan) h) (rowSyndrome (codeWith (now plan) h) (cellOf (h .n2) (now sheet))) (columnSyndrome (codeWith (now plan) h) (cellOf (h .n2) (now sheet))) top left x ⌝ }

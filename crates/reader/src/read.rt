@@ -4,7 +4,7 @@ ghost use lib.ListN.{length};
 ghost use Rattle.layout.specs.Cells.{rowBytes, RightForm};
 ghost use Rattle.boxcode.specs.Check.{dataSize};
 ghost use Rattle.plan.specs.Bytes.{codeWith};
-ghost use Rattle.mend.specs.Usable.{Usable};
+ghost use Rattle.plan.specs.Accepted.{AcceptedWith};
 ghost use Rattle.reader.specs.Read.{outcome, mendOutcome, readOutcome};
 use crate::answer::Answer;
 use crate::answer::refused_as;
@@ -18,7 +18,7 @@ use plan::verdict::refuse;
 
 // Check 14, and the mend: only a burst that was found goes on to what writes.
 pub fn mend_sheet(plan: &[u8], h: Header, sheet: &mut [u8], bits: &mut [u8]) -> Answer
-    requires { ⌜ Usable (now plan) h ⌝ }
+    requires { ⌜ AcceptedWith (now plan) h ⌝ }
     requires { ⌜ RightForm (h .n1) (h .n2) (now sheet) ⌝ }
     requires { ⌜ length (now bits) ≡ rowBytes (dataSize (codeWith (now plan) h)) ⌝ }
     ensures { λ r. ⌜ outcome r (now (sheet .exit)) (now (bits .exit)) ≡ mendOutcome (codeWith (now (plan .entry)) h) (now (sheet .entry)) (now (bits .entry)) ⌝ }

@@ -21,7 +21,7 @@ use Rattle.boxcode.specs.Reader.{mendable, change}
 use Rattle.boxcode.proofs.Reader.{change-burst}
 use Rattle.boxcode.proofs.Report.{burst-report}
 use Rattle.plan.specs.declared.verdict.Verdict.{Verdict}
-use Rattle.plan.specs.Verdict.{refusal, verdictIf, accepted, _orElse_}
+use Rattle.plan.specs.Verdict.{refusal, _orElse_}
 use Rattle.plan.specs.Bytes.{codeOf}
 use Rattle.accept.specs.Verdict.{planVerdict}
 use Rattle.accept.proofs.Acceptance.{accepted-plan}
@@ -30,8 +30,12 @@ use Rattle.buffers.specs.Buffers.{lengthVerdict, unusedVerdict, writeChecks, re
 use Rattle.buffers.proofs.Passing.{bytes-most, size-most}
 use Rattle.mend.specs.declared.report.Report.{Report}
 use Rattle.mend.specs.Report.{noReport, reportAs}
+use Rattle.mend.specs.declared.found.Found.{Found}
+use Rattle.mend.specs.declared.found.Found.the-variants.{Burst, Nothing}
+use Rattle.mend.specs.Found.{foundVerdict}
+use Rattle.mend.proofs.First.{first-report}
 use Rattle.reader.proofs.Cases.{zero-reads}
-use Rattle.reader.specs.Read.{readVerdict, reportRead, taken, refused, readOutcome}
+use Rattle.reader.specs.Read.{burstIn, readVerdict, reportRead, taken, refused, readOutcome}
 use Rattle.writer.specs.Write.{write}
 use Rattle.answer.specs.Answer.{InRange}
 use Rattle.sheet.specs.Calls.{verdictFields, reportFields}
@@ -82,15 +86,18 @@ reads-fit plan sheet bits =
     checks-fit plan sheet bits (unusedVerdict (codeOf plan .n1) (codeOf plan .n2) sheet)
     (λ F. unused-fits (codeOf plan .n1) (codeOf plan .n2) sheet (sheet-bytes plan F))
 
+found-fits : (r : Found) → Fits (foundVerdict r)
+found-fits (Burst top left x) = accepted-fits
+found-fits Nothing = record { number-fits = omega arith; p-fits = omega arith; q-fits = omega arith }
+
 pub read-fits : (plan sheet bits : List ℕ) → Fits (readOutcome plan sheet bits .verdict)
 unfolding readOutcome readVerdict
 read-fits plan sheet bits =
     go (eqb (readVerdict plan sheet bits .number) 0)
-    (else-fits (readChecks plan sheet bits) (verdictIf (not m) (refusal 14 0 0)) (reads-fit plan sheet bits)
-    (λ _. if-fits (not m) (refusal 14 0 0) (λ _. record { number-fits = omega arith; p-fits = omega arith; q-fits = omega arith })))
+    (else-fits (readChecks plan sheet bits) (foundVerdict found) (reads-fit plan sheet bits) (λ _. found-fits found))
   where
-    m : Bool
-    m = mendable (codeOf plan) (cellOf (codeOf plan .n2) sheet)
+    found : Found
+    found = burstIn (codeOf plan) sheet
 
     go : (t : Bool) → Fits (readVerdict plan sheet bits)
         → Fits (cond t (taken (codeOf plan) sheet) (refused (readVerdict plan sheet bits) sheet bits) .verdict)
@@ -109,10 +116,10 @@ none-fits : FiveFit (reportAs noReport)
 none-fits = record { cells-fits = omega arith; top-fits = omega arith; left-fits = omega arith; height-fits = omega arith; width-fits = omega arith }
 
 burst-fits : (c : Code) → Formed c → (sheet : List ℕ) → mendable c (cellOf (c .n2) sheet) ≡ true → FiveFit (reportRead c sheet)
-unfolding reportRead
+unfolding reportRead burstIn mendable change
 burst-fits c F sheet e =
     let s = burst-report c F (change c (cellOf (c .n2) sheet)) (change-burst c F (cellOf (c .n2) sheet) e) in
-    record {
+    rw (first-report c _ _ e) record {
       cells-fits = omega (arith, s .cells-most);
       top-fits = omega (arith, s .top-on, F .n1-most);
       left-fits = omega (arith, s .left-on, F .n2-most);

@@ -10,19 +10,9 @@ ghost use Rattle.syndrome.specs.Gather.{RowWords, Words, ByteSums, RowSu
 use crate::sums::Sums;
 use layout::cells::row_bytes;
 use layout::compare::smaller;
+use layout::cycle::after;
 use plan::entry::row_entry;
 use plan::header::Header;
-
-// The place after k among b, with no division: the first again after the last.
-fn next(k: usize, b: usize) -> usize
-    requires { ⌜ (k < b) × (b ≤ 4) ⌝ }
-    ensures { λ r. ⌜ r ≡ (k + 1) % b ⌝ }
-{
-    if k + 1 == b {
-        return 0;
-    }
-    k + 1
-}
 
 // The V entries of row i, of which there are b2.
 fn row_words(plan: &[u8], h: Header, i: usize) -> [u64; 4]
@@ -69,7 +59,7 @@ fn byte_sums(
         row = row ^ (rows[place] * (rest % 2));
         column = column ^ (columns[k] * (rest % 2));
         rest = rest / 2;
-        place = next(place, b2);
+        place = after(place, b2);
         k += b1;
         t += 1;
     }

@@ -25,7 +25,7 @@ use Rattle.gf2.specs.Xor.{_⊕_}
 use Rattle.gf2.specs.Sum.{chosenSum}
 use Rattle.layout.specs.Cells.{byteOf, cellOf, bytesOf, turned, turnedIf}
 use Rattle.layout.proofs.Form.{bytes-cell, bytes-equal}
-use Rattle.layout.proofs.Turned.{turned-if-bytes}
+use Rattle.layout.proofs.Turned.{turned-if-bytes, turned-if-length}
 use Rattle.boxcode.specs.Code.{Code, Formed, cellNumber, jointWeight, checkJoint}
 use Rattle.boxcode.specs.Condition.{Conditions}
 use Rattle.boxcode.specs.Syndrome.{Cells, weightSum}
@@ -44,15 +44,11 @@ pub turned-next : (c : Code) (y n : ℕ) (s old new : List ℕ) → old ≡ turn
     → new ≡ turnedIf (bit y n) (c .n2) old (c .checkRow n) (c .checkColumn n) → new ≡ turnedTo c y (n + 1) s
 turned-next c y n s old new e f = f ∙ rw (add-one n) (unfold turnedTo in ap (λ (l : List ℕ). turnedIf (bit y n) (c .n2) l (c .checkRow n) (c .checkColumn n)) e)
 
-if-size : (b : Bool) (n2 : ℕ) (s : List ℕ) (i j : ℕ) → length (turnedIf b n2 s i j) ≡ length s
-unfolding turned
-if-size true n2 s i j = length-set s (byteOf n2 i j) (getD s (byteOf n2 i j) 0 ⊕ 2 ^ (j % 8))
-if-size false n2 s i j = refl
-
 pub turned-size : (c : Code) (y n : ℕ) (s : List ℕ) → length (turnedTo c y n s) ≡ length s
 unfolding turnedTo
 turned-size c y zero s = refl
-turned-size c y (suc n) s = if-size (bit y n) (c .n2) (turnedTo c y n s) (c .checkRow n) (c .checkColumn n) ∙ turned-size c y n s
+turned-size c y (suc n) s =
+    turned-if-length (bit y n) (c .n2) (turnedTo c y n s) (c .checkRow n) (c .checkColumn n) ∙ turned-size c y n s
 
 and-false : (a : Bool) → (a && false) ≡ false
 and-false true = refl

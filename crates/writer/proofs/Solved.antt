@@ -25,7 +25,7 @@ use Rattle.gf2.proofs.Solving.{solver-solves, solution-found}
 use Rattle.boxcode.specs.Code.{Code, Formed, jointWeight, checkJoint}
 use Rattle.boxcode.specs.Condition.{Conditions, everyone}
 use Rattle.boxcode.specs.Syndrome.{Cells, rowSyndrome, columnSyndrome}
-use Rattle.boxcode.proofs.Syndrome.{joined, jointSum-is, joint-below, weight-below}
+use Rattle.boxcode.proofs.Syndrome.{joined, jointSum-is, joint-below, check-below, weight-below}
 use Rattle.accept.specs.Tables.{jointsOf}
 use Rattle.accept.proofs.JointEntries.{joints-below, joint-word}
 use Rattle.writer.specs.Steps.{JointSum}
@@ -43,10 +43,6 @@ module _ (c : Code) (F : Formed c) (K : Conditions c) (target : ℕ) (t : target
   word : target < 2 ^ 64
   word = omega (arith, joint-word (c .rv) (c .rh) (F .rv-most) (F .rh-most))
 
-  below : (k : ℕ) → k < c .rv + c .rh → checkJoint c k < 2 ^ (c .rv + c .rh)
-  unfolding checkJoint
-  below k l = joint-below c F (c .checkRow k) (c .checkColumn k) (F .check-rows k l) (F .check-columns k l)
-
   free-joints : freeFrom [] (jointsOf c) ≡ true
   unfolding jointsOf
   free-joints = sym (free-listed (c .rv + c .rh) everyone (checkJoint c)) ∙ independent-free (c .rv + c .rh) everyone (checkJoint c) (K .checks)
@@ -59,7 +55,7 @@ module _ (c : Code) (F : Formed c) (K : Conditions c) (target : ℕ) (t : target
   unfolding jointsOf
   spans-joints =
       sym (spanned-listed (c .rv + c .rh) everyone (checkJoint c) target ∙ spans-turned (jointsOf c) [] target ∙ ap (λ (l : List ℕ). spans l target) (append-nil (jointsOf c)))
-      ∙ full-span (c .rv + c .rh) (checkJoint c) few below (independent-free (c .rv + c .rh) everyone (checkJoint c) (K .checks)) target t
+      ∙ full-span (c .rv + c .rh) (checkJoint c) few (check-below c F) (independent-free (c .rv + c .rh) everyone (checkJoint c) (K .checks)) target t
 
   digits-sum : (y : ℕ) → combination (jointsOf c) y ≡ chosenSum (c .rv + c .rh) (bit y) (checkJoint c)
   unfolding jointsOf

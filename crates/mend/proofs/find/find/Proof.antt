@@ -1,5 +1,7 @@
 -- `mend::find::find` meets its contract. Assumes nothing.
 use Rattle.plan.specs.Bytes.{codeWith}
+use Rattle.mend.specs.declared.found.Found.the-variants.{Burst, Nothing}
+use Rattle.mend.proofs.First.{found-for}
 use Rattle.mend.proofs.Decision.{zero-burst, zero-none}
 use borrow.Author.Needs.{needs}
 use Rattle.mend.proofs.find.find.Statement.{statement}
@@ -14,12 +16,14 @@ returns c = search needs
 returns-2 : tie.Need-returns-2
 returns-2 c =
     let a = c .before .before .before .before in
-    rw (c .before .if1 .left) (zero-none (codeWith (a .args .plan .now) (a .args .h)) (a .pre .0 .formed) (a .pre .0 .conditions) _ (c .if2 .taken))
+    let k = codeWith (a .args .plan .now) (a .args .h) in
+    rw (c .before .if1 .left) (found-for k _ _ Nothing (zero-none k (a .pre .0 .formed) (a .pre .0 .conditions) _ (c .if2 .taken)))
 
 returns-3 : tie.Need-returns-3
 returns-3 c =
     let a = c .before .before .before .before in
-    rw (c .before .if1 .left, c .if2 .left) (zero-burst (codeWith (a .args .plan .now) (a .args .h)) (a .pre .0 .formed) (a .pre .0 .conditions))
+    let k = codeWith (a .args .plan .now) (a .args .h) in
+    rw (c .before .if1 .left, c .if2 .left) (found-for k _ _ (Burst 0 0 0) (zero-burst k (a .pre .0 .formed) (a .pre .0 .conditions)))
 
 pub find-spec : {M : Type 1} → statement M
 find-spec = tie.close (tie.spec search-requires returns returns-2 returns-3)

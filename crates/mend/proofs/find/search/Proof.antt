@@ -1,5 +1,5 @@
 -- `mend::find::search` meets its contract. The invariant: no window before i has a pattern with the V sum. Assumes nothing.
-use mathlib.Core.Path.{_≡_}
+use mathlib.Core.Path.{_≡_, sym, _∙_}
 use mathlib.Core.Bool.{Bool}
 use Prim.Native.Nat.{ℕ, _-_, _≤_, _<_}
 use native.Mathlib.Omega.{arith}
@@ -7,6 +7,9 @@ use borrow.Author.Needs.{needs}
 use borrow.Author.Count.{below-none, below-more}
 use Rattle.plan.specs.Bytes.{codeWith}
 use Rattle.mend.specs.Window.{windowSum}
+use Rattle.mend.specs.declared.found.Found.the-variants.{Nothing}
+use Rattle.mend.proofs.Window.{fit-sum, fit-none}
+use Rattle.mend.proofs.First.{found-for}
 use Rattle.mend.proofs.Decision.{strips-decide, window-none}
 use Rattle.mend.proofs.find.search.Statement.{statement}
 use Rattle.mend.proofs.find.search.Tie as tie
@@ -42,7 +45,9 @@ loop-less : tie.Need-loop-less Inv-loop μ-loop
 loop-less c = omega arith
 
 loop-again : tie.Need-loop-again Inv-loop μ-loop
-loop-again c = (omega arith, below-more _ _ (c .before .before .before .before .loop .inv .1) (rw (c .enum-told .given .1) at (c .before .before .window-fit .ensures)))
+loop-again c =
+    let w = c .before .before in
+    (omega arith, below-more _ _ (w .before .before .loop .inv .1) (fit-none _ _ _ (sym (w .window-fit .ensures) ∙ c .enum-told .given .1)))
 
 on-strips-requires : tie.Need-on-strips-requires Inv-loop μ-loop
 on-strips-requires c κs = let p = c .before .before .before .before .before .before .before .before .before .pre in (p .0 .framed .small, (let n = p .0 .framed .small in let e = p .1 .size in omega arith))
@@ -51,14 +56,16 @@ returns : tie.Need-returns Inv-loop μ-loop
 returns c =
     let a = c .before .before .before .before .before .before .before .before .before .before in
     let S = a .pre .0 .framed .small in
-    let f = rw (c .before .before .x .given .1) at (c .before .before .before .before .window-fit .ensures) in
-    strips-decide _ _ _ (a .pre .0) (a .pre .1) _ _ _ _ (omega arith) (f .1) (c .on-strips .result) (c .on-strips .ensures)
+    let f = fit-sum _ _ _ _ (sym (c .before .before .before .before .window-fit .ensures) ∙ c .before .before .x .given .1) in
+    rw (c .on-strips .ensures) (strips-decide _ _ _ (a .pre .0) (a .pre .1) _ _ _ _ (omega arith) f)
 
 returns-2 : tie.Need-returns-2 Inv-loop μ-loop
 returns-2 c =
     let a = c .before .before .before .before .before in
     let S = a .pre .0 .framed .small in
-    window-none (codeWith (a .args .plan .now) (a .args .h)) (a .pre .0 .formed) (a .pre .0 .conditions) _ _ (λ j on m e. c .before .loop .inv .1 j (omega arith) m e)
+    let k = codeWith (a .args .plan .now) (a .args .h) in
+    found-for k _ _ Nothing
+    (window-none k (a .pre .0 .formed) (a .pre .0 .conditions) _ _ (λ j on m e. c .before .loop .inv .1 j (omega arith) m e))
 
 pub search-spec : {M : Type 1} → statement M
 search-spec =

@@ -9,7 +9,7 @@ use Rattle.gf2.specs.declared.Solver.{Solver}
 use Rattle.gf2.specs.declared.Solution.{Solution}
 use Rattle.plan.specs.Bytes.{codeWith}
 use Rattle.mend.proofs.Turns.{small-burst, box-size}
-use Rattle.mend.proofs.Window.{fit-pattern, fit-nothing}
+use Rattle.mend.proofs.Window.{fit-solved}
 use lib.Seq.{length-take-le}
 use Rattle.mend.proofs.fit.window_fit.Statement.{statement}
 use Rattle.mend.proofs.fit.window_fit.Tie as tie
@@ -50,14 +50,14 @@ returns : tie.Need-returns
 returns c =
     let w = c .before .before .before .before .before .before .before .before in
     let a = w .before .before .before .before .before in
-    fit-pattern (codeWith (a .args .plan .now) (a .args .h)) (a .pre .0 .formed) (a .args .i) (a .pre .1) (a .pre .0 .conditions) (a .args .v) (omega arith) _
+    fit-solved (codeWith (a .args .plan .now) (a .args .h)) (a .pre .0 .formed) (a .args .i) (a .pre .1) (a .pre .0 .conditions) (a .args .v) (omega arith) _
     (answer _ _ _ _ _ _ (c .before .before .before .solve .ensures) (w .solver-of .ensures) (w .before .before .before .gather .ensures .entries) (c .before .x .given .1))
 
 returns-2 : tie.Need-returns-2
 returns-2 c =
     let w = c .before .before .before .before .before .before .before in
     let a = w .before .before .before .before .before in
-    fit-nothing (codeWith (a .args .plan .now) (a .args .h)) (a .pre .0 .formed) (a .args .i) (a .pre .1) (a .pre .0 .conditions) (a .args .v) (omega arith)
+    fit-solved (codeWith (a .args .plan .now) (a .args .h)) (a .pre .0 .formed) (a .args .i) (a .pre .1) (a .pre .0 .conditions) (a .args .v) (omega arith) _
     (answer _ _ _ _ _ _ (c .before .before .solve .ensures) (w .solver-of .ensures) (w .before .before .before .gather .ensures .entries) (c .enum-told .given .1))
 
 pub window-fit-spec : {M : Type 1} → statement M

@@ -33,7 +33,7 @@ returns c =
 apply-burst-requires : tie.Need-apply-burst-requires
 apply-burst-requires c κs =
     let p = c .before .before .before .before .before .before .before .before .before .before .pre in
-    (p .0, (p .1 .0, (p .1 .1, rw (c .before .before .before .top .given .1) at (c .before .before .before .before .before .find-burst .ensures))))
+    (p .0, (p .1 .0, (p .1 .1, (rw (c .before .before .before .top .given .1) at (c .before .before .before .before .before .find-burst .ensures)) .burst)))
 
 same-length-2 : tie.Need-same-length-2
 same-length-2 c = search needs
@@ -45,7 +45,7 @@ returns-2 : tie.Need-returns-2
 returns-2 c =
     let a = c .before .before .before .before .before .before .before .before .before .before .before .before .before .before .before in
     let b = rw (c .before .before .before .before .before .before .before .before .top .given .1) at (c .before .before .before .before .before .before .before .before .before .before .find-burst .ensures) in
-    c .before .before .before .before .apply-burst .ensures ∙ mend-some (codeWith (a .args .plan .now) (a .args .h)) _ _ (b .has)
+    c .before .before .before .before .apply-burst .ensures ∙ mend-some (codeWith (a .args .plan .now) (a .args .h)) _ _ _ _ _ b
 
 pub mend-sheet-spec : {M : Type 1} → statement M
 mend-sheet-spec =

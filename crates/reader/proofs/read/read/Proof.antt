@@ -7,7 +7,7 @@ use Rattle.plan.specs.Bytes.{codeOf, codeWith}
 use Rattle.buffers.specs.Buffers.{readChecks, Reads}
 use Rattle.buffers.proofs.Passing.{read-zero}
 use Rattle.reader.specs.Read.{mendOutcome}
-use Rattle.reader.proofs.Outcome.{read-refuses, read-mends, usable}
+use Rattle.reader.proofs.Outcome.{read-refuses, read-mends, accepted-with}
 use borrow.Author.Needs.{needs}
 use Rattle.reader.proofs.read.read.Statement.{statement}
 use Rattle.reader.proofs.read.read.Tie as tie
@@ -45,7 +45,7 @@ mend-sheet-requires : tie.Need-mend-sheet-requires
 unfolding codeOf
 mend-sheet-requires c κs =
     let R = ready (c .before .before .before) in
-    rw (c .before .before .header-of .ensures) (usable _ _ refl (R .accepted), (R .form, R .bits-size))
+    rw (c .before .before .header-of .ensures) (accepted-with _ _ refl (R .accepted), (R .form, R .bits-size))
 
 same-length-3 : tie.Need-same-length-3
 same-length-3 c = search needs

@@ -75,8 +75,8 @@ mul-column-2 c =
     let w = here (c .before) in
     omega (arith, times-le (getD (c .before .before .before .before .before .before .args .columns .now) (c .before .before .loop .k) 0) (c .before .before .loop .rest))
 
-next-requires : tie.Need-next-requires Inv-loop μ-loop
-next-requires c κs = let w = here (c .before) in omega arith
+after-requires : tie.Need-after-requires Inv-loop μ-loop
+after-requires c κs = let w = here (c .before) in omega arith
 
 add-k-2 : tie.Need-add-k-2 Inv-loop μ-loop
 add-k-2 c = let w = here (c .before .before) in omega arith
@@ -90,7 +90,7 @@ loop-less c = omega arith
 loop-again : tie.Need-loop-again Inv-loop μ-loop
 loop-again c =
     let v = c .before .before .before .loop .inv in
-    (omega arith, v .1, walk-next _ _ _ _ _ _ _ _ _ _ _ _ _ _ (v .2) (c .next .ensures))
+    (omega arith, v .1, walk-next _ _ _ _ _ _ _ _ _ _ _ _ _ _ (v .2) (c .after .ensures))
 
 returns-2 : tie.Need-returns-2 Inv-loop μ-loop
 returns-2 c =
@@ -128,7 +128,7 @@ byte-sums-spec =
     mul-column
     shared-slice-read-column
     mul-column-2
-    next-requires
+    after-requires
     add-k-2
     add-t
     loop-less
