@@ -1,5 +1,7 @@
 -- `sheet::sheet_plan_test` meets its contract: the number and places fit their fields. Assumes nothing.
-use Rattle.sheet.specs.Calls.{planAnswer}
+use native.Mathlib.Omega.{arith}
+use Rattle.answer.specs.Answer.{InRange}
+use Rattle.sheet.specs.Calls.{verdictFields, planAnswer}
 use Rattle.sheet.proofs.Ranges.{plan-range}
 use borrow.Author.Needs.{needs}
 use Rattle.sheet.proofs.sheet_plan_test.Statement.{statement}
@@ -9,7 +11,9 @@ test-requires : tie.Need-test-requires
 test-requires c κs = search needs
 
 pack-requires : tie.Need-pack-requires
-pack-requires c κs = rw (c .test .ensures) (plan-range (c .before .before .args .plan .now))
+pack-requires c κs =
+    let f : InRange (verdictFields (c .test .result)) = rw (c .test .ensures) (plan-range (c .before .before .args .plan .now)) in
+    omega arith
 
 returns : tie.Need-returns
 unfolding planAnswer

@@ -1,6 +1,7 @@
 -- `sheet::sheet_read` meets its contract: the reader's outcome, its numbers packed. Assumes nothing.
 use mathlib.Core.Path.{ap}
-use Rattle.answer.specs.Answer.{packed}
+use native.Mathlib.Omega.{arith}
+use Rattle.answer.specs.Answer.{InRange, packed}
 use Rattle.reader.specs.Read.{Outcome}
 use Rattle.sheet.specs.Calls.{reportFields, readTo, readCall}
 use Rattle.sheet.proofs.Ranges.{read-range}
@@ -15,8 +16,10 @@ pack-requires : tie.Need-pack-requires
 pack-requires c κs =
     let b = c .before .before .before .before .before .before in
     let s = b .before .before .before .before .before .before .args in
-    let e = ap (λ (o : Outcome). reportFields (o .verdict) (o .report)) (b .read .ensures) in
-    rw e (read-range (s .plan .now) (s .sheet .now) (s .bits .now))
+    let r = b .read .result in
+    let f : InRange (reportFields (r .verdict) (r .report)) =
+    rw (ap (λ (o : Outcome). reportFields (o .verdict) (o .report)) (b .read .ensures)) (read-range (s .plan .now) (s .sheet .now) (s .bits .now)) in
+    omega arith
 
 same-length : tie.Need-same-length
 same-length c = search needs

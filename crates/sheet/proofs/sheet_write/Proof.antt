@@ -1,6 +1,7 @@
 -- `sheet::sheet_write` meets its contract: the writer's outcome, its number and places packed. Assumes nothing.
 use mathlib.Core.Path.{ap}
-use Rattle.answer.specs.Answer.{packed}
+use native.Mathlib.Omega.{arith}
+use Rattle.answer.specs.Answer.{InRange, packed}
 use Rattle.writer.specs.Write.{Outcome}
 use Rattle.sheet.specs.Calls.{verdictFields, written, writeCall}
 use Rattle.sheet.proofs.Ranges.{write-range}
@@ -14,8 +15,10 @@ write-requires c κs = search needs
 pack-requires : tie.Need-pack-requires
 pack-requires c κs =
     let s = c .before .before .before .before .before .before .before .args in
-    let e = ap (λ (o : Outcome). verdictFields (o .verdict)) (c .before .before .write .ensures) in
-    rw e (write-range (s .plan .now) (s .bits .now) (s .sheet .now))
+    let w = c .before .before .write in
+    let f : InRange (verdictFields (w .result)) =
+    rw (ap (λ (o : Outcome). verdictFields (o .verdict)) (w .ensures)) (write-range (s .plan .now) (s .bits .now) (s .sheet .now)) in
+    omega arith
 
 same-length : tie.Need-same-length
 same-length c = search needs

@@ -12,13 +12,6 @@ use borrow.Author.Needs.{needs}
 use Rattle.reader.proofs.read.read.Statement.{statement}
 use Rattle.reader.proofs.read.read.Tie as tie
 
--- checks 1 to 13 passed
-passes : (c : tie.Else1) → readChecks (c .before .before .before .before .before .before .before .before .args .plan .now) (c .before .before .before .before .before .before .before .before .args .sheet .now) (c .before .before .before .before .before .before .before .before .args .bits .now) .number ≡ 0
-passes c = ap (λ (v : Verdict). v .number) (sym (c .before .before .read-checks .ensures)) ∙ c .if1 .left
-
-ready : (c : tie.Else1) → Reads (c .before .before .before .before .before .before .before .before .args .plan .now) (c .before .before .before .before .before .before .before .before .args .sheet .now) (c .before .before .before .before .before .before .before .before .args .bits .now)
-ready c = read-zero _ _ _ (passes c)
-
 read-checks-requires : tie.Need-read-checks-requires
 read-checks-requires c κs = search needs
 
@@ -38,6 +31,16 @@ returns c =
     rw (c .refused-as .ensures, e)
     (read-refuses (a .plan .now) (a .sheet .now) (a .bits .now) (λ z. c .before .if1 .taken (ap (λ (v : Verdict). v .number) e ∙ z)))
 
+-- what the function was given, where checks 1 to 13 passed
+abbrev given : tie.Else1 → tie.Start
+given c = c .before .before .before .before .before .before .before .before
+
+passes : (c : tie.Else1) → readChecks (given c .args .plan .now) (given c .args .sheet .now) (given c .args .bits .now) .number ≡ 0
+passes c = ap (λ (v : Verdict). v .number) (sym (c .before .before .read-checks .ensures)) ∙ c .if1 .left
+
+ready : (c : tie.Else1) → Reads (given c .args .plan .now) (given c .args .sheet .now) (given c .args .bits .now)
+ready c = read-zero _ _ _ (passes c)
+
 header-of-requires : tie.Need-header-of-requires
 header-of-requires c κs = let f = ready c .accepted .framed in omega arith
 
@@ -56,10 +59,12 @@ same-length-4 c = search needs
 returns-2 : tie.Need-returns-2
 unfolding codeOf
 returns-2 c =
-    let a = c .before .before .before .before .before .before .before .before .before .before .before .before .before .before .before .before .args in
-    c .before .before .before .before .mend-sheet .ensures
-    ∙ ap (λ (h : Header). mendOutcome (codeWith (a .plan .now) h) (a .sheet .now) (a .bits .now)) (c .before .before .before .before .before .before .before .header-of .ensures)
-    ∙ read-mends (a .plan .now) (a .sheet .now) (a .bits .now) (passes (c .before .before .before .before .before .before .before .before))
+    let m = c .before .before .before .before in
+    let h = m .before .before .before in
+    let a = given (h .before) .args in
+    m .mend-sheet .ensures
+    ∙ ap (λ (h : Header). mendOutcome (codeWith (a .plan .now) h) (a .sheet .now) (a .bits .now)) (h .header-of .ensures)
+    ∙ read-mends (a .plan .now) (a .sheet .now) (a .bits .now) (passes (h .before))
 
 pub read-spec : {M : Type 1} → statement M
 read-spec =

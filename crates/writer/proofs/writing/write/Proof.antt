@@ -11,13 +11,6 @@ use borrow.Author.Needs.{needs}
 use Rattle.writer.proofs.writing.write.Statement.{statement}
 use Rattle.writer.proofs.writing.write.Tie as tie
 
--- the checks passed
-passes : (c : tie.Else1) → writeChecks (c .before .before .before .before .before .before .before .args .plan .now) (c .before .before .before .before .before .before .before .args .bits .now) (c .before .before .before .before .before .before .before .args .sheet .now) .number ≡ 0
-passes c = ap (λ (v : Verdict). v .number) (sym (c .before .before .write-checks .ensures)) ∙ c .if1 .left
-
-ready : (c : tie.Else1) → Writes (c .before .before .before .before .before .before .before .args .plan .now) (c .before .before .before .before .before .before .before .args .bits .now) (c .before .before .before .before .before .before .before .args .sheet .now)
-ready c = write-zero _ _ _ (passes c)
-
 write-checks-requires : tie.Need-write-checks-requires
 write-checks-requires c κs = search needs
 
@@ -29,6 +22,16 @@ returns c =
     let e = c .before .before .write-checks .ensures in
     ap (λ (v : Verdict). outcome v (c .before .before .before .before .before .before .before .args .sheet .now)) e
     ∙ sym (write-refused _ _ _ (λ z. c .if1 .taken (ap (λ (v : Verdict). v .number) e ∙ z)))
+
+-- what the function was given, where the checks passed
+abbrev given : tie.Else1 → tie.Start
+given c = c .before .before .before .before .before .before .before
+
+passes : (c : tie.Else1) → writeChecks (given c .args .plan .now) (given c .args .bits .now) (given c .args .sheet .now) .number ≡ 0
+passes c = ap (λ (v : Verdict). v .number) (sym (c .before .before .write-checks .ensures)) ∙ c .if1 .left
+
+ready : (c : tie.Else1) → Writes (given c .args .plan .now) (given c .args .bits .now) (given c .args .sheet .now)
+ready c = write-zero _ _ _ (passes c)
 
 header-of-requires : tie.Need-header-of-requires
 header-of-requires c κs = let w = ready c in omega (arith, w .accepted .framed .long)
@@ -43,7 +46,8 @@ same-length-2 : tie.Need-same-length-2
 same-length-2 c = search needs
 
 -- the sheet after, by the plan's bytes and the data alone
-whole : (c : tie.After-write-sheet) → c .write-sheet .last .1 .1 .1 .0 ≡ writtenBytes (c .before .before .before .before .before .before .before .before .before .before .args .plan .now) (c .before .before .before .before .before .before .before .before .before .before .args .bits .now)
+whole : (c : tie.After-write-sheet) → c .write-sheet .last .1 .1 .1 .0
+    ≡ writtenBytes (given (c .before .before .before) .args .plan .now) (given (c .before .before .before) .args .bits .now)
 unfolding writtenBytes codeOf
 whole c = rw (c .before .before .header-of .ensures) at (c .write-sheet .ensures)
 
