@@ -27,7 +27,7 @@ use Rattle.finite.proofs.Digits.{place-from, place-to, place-mod, place-is}
 use Rattle.boxcode.proofs.Syndrome.{column-cells}
 use Rattle.boxcode.proofs.Pattern.{InWindow, pattern-window, burst-row, patternOf, pattern-at, row-pattern}
 use Rattle.boxcode.proofs.Separated.{Separated}
-use Rattle.boxcode.proofs.Trial.{Found, found}
+use Rattle.boxcode.proofs.Trial.{BurstWith, found}
 
 unfoldable pub laid : Code → (ℕ → Bool) → ℕ → Cells
 laid c p a i j = within a (c .b2) j && p (i * c .b2 + j % c .b2)
@@ -102,7 +102,7 @@ module _ (c : Code) (F : Formed c) where
 
     -- a strip on which the pattern has the H sum gives the burst
     pub strip-found : (a h : ℕ) → a + c .b2 ≤ c .n2 → columnSyndrome c (laid c p a) ≡ h
-        → Found c (chosenSum (c .n1 * c .b2) p (c .rowEntry)) h (laid c p a)
+        → BurstWith c (chosenSum (c .n1 * c .b2) p (c .rowEntry)) h (laid c p a)
     strip-found a h columns e = record { burst = laid-burst a columns; row = laid-row a columns; column = e }
 
     -- under separation no other pattern has its V sum

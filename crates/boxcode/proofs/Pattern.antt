@@ -45,7 +45,7 @@ InWindow c top p = (k : ℕ) → p k ≡ true → within top (c .b1) (k / c .b2)
 -- ---- sums by remainders, over any weight
 
 -- what a cell adds
-abbrev weighed : (ℕ → ℕ → ℕ) → Cells → ℕ → ℕ → ℕ
+abbrev pub weighed : (ℕ → ℕ → ℕ) → Cells → ℕ → ℕ → ℕ
 weighed w e i j = pick (e i j) (w i j)
 
 module _ (n m top left height width : ℕ) (hp : 0 < height) (wp : 0 < width) (rows : top + height ≤ n) (columns : left + width ≤ m)

@@ -16,7 +16,7 @@ use Rattle.boxcode.specs.Burst.{Burst, Fits}
 use Rattle.boxcode.specs.Reader.{mendable, change}
 use Rattle.boxcode.proofs.Separated.{Separated, fits-unique}
 use Rattle.boxcode.proofs.Burst.{fits-row, fits-column, sums-fit}
-use Rattle.boxcode.proofs.Trial.{Found, found, has-burst}
+use Rattle.boxcode.proofs.Trial.{BurstWith, found, has-burst}
 
 module _ (c : Code) (F : Formed c) (s : Cells) where
   pub fits-mendable : (e : Cells) → Burst c e → Fits c s e → mendable c s ≡ true
@@ -25,7 +25,7 @@ module _ (c : Code) (F : Formed c) (s : Cells) where
       has-burst c F (rowSyndrome c s) (columnSyndrome c s) e
       (record { burst = B; row = sym (fits-row c s e f); column = sym (fits-column c s e f) })
 
-  change-found : mendable c s ≡ true → Found c (rowSyndrome c s) (columnSyndrome c s) (change c s)
+  change-found : mendable c s ≡ true → BurstWith c (rowSyndrome c s) (columnSyndrome c s) (change c s)
   unfolding mendable change
   change-found t = found c F (rowSyndrome c s) (columnSyndrome c s) t
 

@@ -2,12 +2,11 @@
 --
 --   cells-equal, cells-flat, cells-some, cells-none   the number of cells: by cell numbers, and where it is 0
 --   box-count             a set in a rectangle has at most height × width cells
---   nothing               five zeros
 --   report-cells          equal cells on the sheet give equal reports
 --   report-inside         a set on the sheet lies in the rectangle of its report
---   report-least, Holds   any rectangle that holds the set holds that one
+--   report-least          any rectangle that holds the set holds that one
 --   report-none           the empty set has five zeros
---   burst-report, Small   of a burst: at most 16 cells, on the sheet, no larger than b1 by b2
+--   burst-report, SmallReport   of a burst: at most 16 cells, on the sheet, no larger than b1 by b2
 --
 -- Assumes nothing.
 use mathlib.Core.Path.{_≡_, refl, sym, ap, ap₂, _∙_}
@@ -20,7 +19,7 @@ use Rattle.finite.specs.Search.{anyBelow, countBelow, firstOf, pastOf}
 use Rattle.boxcode.specs.Code.{Code, Formed}
 use Rattle.boxcode.specs.Syndrome.{Cells, SameCells}
 use Rattle.boxcode.specs.Burst.{Inside, Burst}
-use Rattle.boxcode.specs.Reader.{Report, cellCount, rowTouched, columnTouched, reportOf}
+use Rattle.boxcode.specs.Reader.{Report, cellCount, rowTouched, columnTouched, reportOf, noReport, LiesIn}
 use Rattle.finite.proofs.Truth.{Truth, is-true, is-false, true-or-false, clash, not-true}
 use Rattle.finite.proofs.Search.{any-found, any-here, any-none, none-any, any-equal, first-is, first-none, first-equal, past-le, past-above, past-last, past-none, past-equal}
 use Rattle.finite.proofs.Count.{count-equal, count-none, count-rise, count-split, count-run}
@@ -139,19 +138,8 @@ module _ (n : ℕ) (p : ℕ → Bool) where
 
 -- ---- the report
 
--- five zeros
-unfoldable pub nothing : Report
-nothing = record { cells = 0; top = 0; left = 0; height = 0; width = 0 }
-
--- a rectangle holds the one of a report
-pub record Holds (top left height width : ℕ) (r : Report) : Type 0 where
-  pub above : top ≤ r .top
-  pub under : r .top + r .height ≤ top + height
-  pub before : left ≤ r .left
-  pub past : r .left + r .width ≤ left + width
-
 -- the numbers of a report of a burst, in their ranges
-pub record Small (c : Code) (r : Report) : Type 0 where
+pub record SmallReport (c : Code) (r : Report) : Type 0 where
   pub cells-box : r .cells ≤ c .b1 * c .b2
   pub cells-most : r .cells ≤ 16
   pub top-on : r .top < c .n1
@@ -218,15 +206,15 @@ module _ (c : Code) where
     to-column : (j : ℕ) → columnTouched c e j ≡ true → j < left + width
     to-column j t = let w = has-column e j t in in-box .column-to (w .0) j (w .2)
 
-    pub report-least : (i j : ℕ) → i < c .n1 → j < c .n2 → e i j ≡ true → Holds top left height width (reportOf c e)
+    pub report-least : (i j : ℕ) → i < c .n1 → j < c .n2 → e i j ≡ true → LiesIn (reportOf c e) top left height width
     unfolding reportOf
     report-least i j li lj t =
         let r = run-least (c .n1) (rowTouched c e) top height from-row to-row i li (row-has e i j lj t) in
         let k = run-least (c .n2) (columnTouched c e) left width from-column to-column j lj (column-has e i j li t) in
         record { above = r .0; under = r .1; before = k .0; past = k .1 }
 
-  pub report-none : (e : Cells) → ((i j : ℕ) → i < c .n1 → j < c .n2 → e i j ≡ false) → reportOf c e ≡ nothing
-  unfolding reportOf nothing
+  pub report-none : (e : Cells) → ((i j : ℕ) → i < c .n1 → j < c .n2 → e i j ≡ false) → reportOf c e ≡ noReport
+  unfolding reportOf
   report-none e h =
       let r : anyBelow (c .n1) (rowTouched c e) ≡ false =
       none-any (c .n1) (rowTouched c e) (λ i l. not-true (rowTouched c e i) (λ t. let w = has-row e i t in clash (w .2) (h i (w .0) l (w .1)))) in
@@ -240,7 +228,7 @@ module _ (c : Code) where
         width = past-none (c .n2) (columnTouched c e) k i - first-none (c .n2) (columnTouched c e) k i;
       }
 
-  pub burst-report : Formed c → (e : Cells) → Burst c e → Small c (reportOf c e)
+  pub burst-report : Formed c → (e : Cells) → Burst c e → SmallReport c (reportOf c e)
   unfolding reportOf
   burst-report F e B = record {
     cells-box = box;

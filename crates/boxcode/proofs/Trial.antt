@@ -3,7 +3,7 @@
 --   boxNumber                the pattern number of a set of cells in a rectangle
 --   box-inside, box-number   a pattern number gives cells inside its rectangle, and every set inside one has a number
 --   trial-burst, burst-trial   every trial is a burst, and every burst is a trial
---   Found                    a burst with two given sums
+--   BurstWith                a burst with two given sums
 --   found                    where hasBurst holds, burstFor is such a burst
 --   has-burst                where there is such a burst, hasBurst holds
 --   burst-is                 under separation it is that burst
@@ -137,20 +137,20 @@ module _ (c : Code) (F : Formed c) where
 
 -- ---- the first burst with two given sums
 
-pub record Found (c : Code) (v h : ℕ) (e : Cells) : Type 0 where
+pub record BurstWith (c : Code) (v h : ℕ) (e : Cells) : Type 0 where
   pub burst : Burst c e
   pub row : rowSyndrome c e ≡ v
   pub column : columnSyndrome c e ≡ h
 
 module _ (c : Code) (F : Formed c) (v h : ℕ) where
-  pub found : hasBurst c v h ≡ true → Found c v h (burstFor c v h)
+  pub found : hasBurst c v h ≡ true → BurstWith c v h (burstFor c v h)
   unfolding hasBurst burstFor tried
   found t =
       let below : least (trials c) (tried c v h) < trials c = ltb-true (least (trials c) (tried c v h)) (trials c) t in
       let sums = both-equal (rowSyndrome c (burstFor c v h)) (columnSyndrome c (burstFor c v h)) v h (least-found (trials c) (tried c v h) below) in
       record { burst = trial-burst c F (least (trials c) (tried c v h)) below; row = sums .0; column = sums .1 }
 
-  pub has-burst : (e : Cells) → Found c v h e → hasBurst c v h ≡ true
+  pub has-burst : (e : Cells) → BurstWith c v h e → hasBurst c v h ≡ true
   unfolding hasBurst tried
   has-burst e f =
       let w = burst-trial c F e (f .burst) in
@@ -163,7 +163,7 @@ module _ (c : Code) (F : Formed c) (v h : ℕ) where
       (row-cells c (trialCells c t) e cells ∙ f .row) (column-cells c (trialCells c t) e cells ∙ f .column)) in
       lt-ltb (least (trials c) (tried c v h)) (trials c) (omega arith)
 
-  pub burst-is : Separated c → (e : Cells) → Found c v h e → (i j : ℕ) → burstFor c v h i j ≡ e i j
+  pub burst-is : Separated c → (e : Cells) → BurstWith c v h e → (i j : ℕ) → burstFor c v h i j ≡ e i j
   burst-is S e f =
       let g = found (has-burst e f) in
       unique c S (burstFor c v h) e (g .burst) (f .burst) (g .row ∙ sym (f .row)) (g .column ∙ sym (f .column))

@@ -7,7 +7,9 @@
 --   cellCount    the number of cells of a set
 --   rowTouched, columnTouched   a row, and a column, has a cell of the set
 --   reportOf     the report of a set of cells
-use Prim.Native.Nat.{ℕ, zero, suc, _+_, _-_}
+--   noReport     five zeros
+--   LiesIn       the rectangle of a report lies in another
+use Prim.Native.Nat.{ℕ, zero, suc, _+_, _-_, _≤_}
 use mathlib.Core.Bool.{Bool}
 use Rattle.finite.specs.Search.{anyBelow, countBelow, firstOf, pastOf}
 use Rattle.boxcode.specs.Code.{Code}
@@ -50,3 +52,12 @@ reportOf c e = record {
   height = pastOf (c .n1) (rowTouched c e) - firstOf (c .n1) (rowTouched c e);
   width = pastOf (c .n2) (columnTouched c e) - firstOf (c .n2) (columnTouched c e);
 }
+
+abbrev pub noReport : Report
+noReport = record { cells = 0; top = 0; left = 0; height = 0; width = 0 }
+
+pub record LiesIn (r : Report) (top left height width : ℕ) : Type 0 where
+  pub above : top ≤ r .top
+  pub under : r .top + r .height ≤ top + height
+  pub before : left ≤ r .left
+  pub past : r .left + r .width ≤ left + width

@@ -14,7 +14,7 @@ use Rattle.cases.specs.Plans.{S, T, planS, planT}
 -- the plan; the plan, the data and the sheet before; the plan, the sheet and the data before
 pub data Case : Type 0 where
   testing : List ℕ → Verdict → Case
-  writing : List ℕ → List ℕ → List ℕ → w.Outcome → Case
+  writing : List ℕ → List ℕ → List ℕ → w.Wrote → Case
   reading : List ℕ → List ℕ → List ℕ → r.Outcome → Case
 
 -- the check list of S
@@ -23,7 +23,7 @@ checks = 0 ∷ 0 ∷ 0 ∷ 1 ∷ 0 ∷ 2 ∷ 1 ∷ 0 ∷ []
 
 -- a sheet is written, and a sheet is read: what the buffers held before is of no account
 abbrev writes : List ℕ → List ℕ → List ℕ → List ℕ → Case
-writes plan bits old sheet = writing plan bits old (w.outcome accepted sheet)
+writes plan bits old sheet = writing plan bits old (w.wrote accepted sheet)
 
 abbrev five : ℕ → ℕ → ℕ → ℕ → ℕ → Report
 five cells top left height width = record { cells = cells; top = top; left = left; height = height; width = width }

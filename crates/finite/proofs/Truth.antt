@@ -1,13 +1,14 @@
 -- Small laws of truth values:
 --
 --   and-left, and-right, and-both   a conjunction is true exactly where both parts are
+--   and-true, and-false             a conjunction with a known second part
 --   or-cases, or-left, or-right     a disjunction is true exactly where one part is
 --   or-false                        and false where both are
 --   same-truth                      two values are equal if each is true where the other is
 --   both, either                    a true conjunction and a true disjunction taken apart
 --   true-or-false                   every value is one or the other, with the equation
 --   clash, never                    no value is both
---   xor-equal, xor-none, xor-self, xor-back   differences of truth values
+--   xor-equal, xor-none, xor-light, xor-self, xor-back   differences of truth values
 --   both-equal, equal-both                    two equations as one test
 --   within-from, within-to, in-within         the numbers of a run
 --
@@ -56,6 +57,14 @@ pub and-both : (a b : Bool) → a ≡ true → b ≡ true → (a && b) ≡ true
 and-both true b p q = q
 and-both false b p q = p
 
+pub and-true : (a : Bool) → (a && true) ≡ a
+and-true true = refl
+and-true false = refl
+
+pub and-false : (a : Bool) → (a && false) ≡ false
+and-false true = refl
+and-false false = refl
+
 pub or-left : (a b : Bool) → a ≡ true → (a || b) ≡ true
 or-left true b p = refl
 or-left false b p = clash p refl
@@ -93,6 +102,11 @@ pub xor-none : (a : Bool) → xor a false ≡ a
 unfolding xor
 xor-none true = refl
 xor-none false = refl
+
+pub xor-light : (a : Bool) → xor false a ≡ a
+unfolding xor
+xor-light true = refl
+xor-light false = refl
 
 pub xor-self : (a : Bool) → xor a a ≡ false
 unfolding xor

@@ -12,5 +12,6 @@ pub mod Span
 pub mod Combination
 pub mod Combined
 pub mod Solving
+pub mod Answer
 pub mod Swept
 pub mod Keeping

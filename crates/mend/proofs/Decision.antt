@@ -25,7 +25,7 @@ use Rattle.boxcode.specs.Condition.{Conditions}
 use Rattle.boxcode.specs.Burst.{hasBurst}
 use Rattle.boxcode.proofs.Image.{unpicked}
 use Rattle.boxcode.proofs.Condition.{separated}
-use Rattle.boxcode.proofs.Trial.{Found, has-burst, burst-is}
+use Rattle.boxcode.proofs.Trial.{BurstWith, has-burst, burst-is}
 use Rattle.boxcode.proofs.Laid.{none-found, strip-found, found-strip}
 use Rattle.mend.specs.Window.{windowSum, entryAt}
 use Rattle.mend.specs.Strip.{wordAt, laidCell, laidRow, laidLine, laidSum, fitsOn, laidDigit, boxPattern, onStrips}
@@ -45,7 +45,7 @@ module _ (c : Code) (F : Formed c) (K : Conditions c) (v s : ℕ) where
     chosen : chosenSum (c .n1 * c .b2) (inWindow c i (bit x)) (c .rowEntry) ≡ v
     chosen = window-sum c F i rows (bit x) ∙ q
 
-    laid-found : (a : ℕ) → a + c .b2 ≤ c .n2 → laidSum (c .b1) (c .b2) (c .columnEntry) i a x ≡ s → Found c v s (laidCells c i x a)
+    laid-found : (a : ℕ) → a + c .b2 ≤ c .n2 → laidSum (c .b1) (c .b2) (c .columnEntry) i a x ≡ s → BurstWith c v s (laidCells c i x a)
     unfolding laidCells
     laid-found a columns e =
         rw chosen at

@@ -1,7 +1,7 @@
 -- The first burst by trial, as an answer:
 --
 --   first-verdict, first-report   where some burst has the two sums: number 0, and the report of its cells
---   first-none                    where none has
+--   first-nothing                 where none has: Nothing
 --   first-has                     number 0 says that some burst has
 --   found-for                     a burst with its cells, or none where there is none, has its number, places and five numbers
 --
@@ -29,9 +29,9 @@ module _ (c : Code) (v s : ℕ) where
   unfolding firstBurst burstFor trialCells
   first-report t = rw t
 
-  pub first-none : hasBurst c v s ≡ false → firstBurst c v s ≡ Nothing
+  pub first-nothing : hasBurst c v s ≡ false → firstBurst c v s ≡ Nothing
   unfolding firstBurst
-  first-none t = rw t
+  first-nothing t = rw t
 
   pub first-has : foundVerdict (firstBurst c v s) .number ≡ 0 → hasBurst c v s ≡ true
   unfolding firstBurst
@@ -52,4 +52,4 @@ module _ (c : Code) (v s : ℕ) where
         ∙ sym (first-report (b .has));
     burst = b;
   }
-  found-for Nothing e = record { verdict = ap foundVerdict (sym (first-none e)); report = ap (foundReport c) (sym (first-none e)); burst = e }
+  found-for Nothing e = record { verdict = ap foundVerdict (sym (first-nothing e)); report = ap (foundReport c) (sym (first-nothing e)); burst = e }

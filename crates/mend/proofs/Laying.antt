@@ -23,6 +23,7 @@ use Rattle.boxcode.specs.Code.{Code, Formed, columnWeight}
 use Rattle.boxcode.specs.Syndrome.{Cells, weightSum, columnSyndrome}
 use Rattle.boxcode.specs.Burst.{Inside, boxCells}
 use Rattle.boxcode.proofs.Image.{unpicked}
+use Rattle.boxcode.proofs.Pattern.{weighed}
 use Rattle.boxcode.proofs.Laid.{laid, laid-inside}
 use Rattle.boxcode.proofs.Trial.{boxNumber, box-number}
 use Rattle.mend.specs.Strip.{laidCell, laidRow, laidLine, laidSum, laidDigit, boxPattern}
@@ -32,10 +33,6 @@ use Rattle.mend.proofs.Window.{inWindow, in-window, window-place}
 
 unfoldable pub laidCells : Code → ℕ → ℕ → ℕ → Cells
 laidCells c i x a = laid c (inWindow c i (bit x)) a
-
--- what a cell adds
-abbrev weighed : (ℕ → ℕ → ℕ) → Cells → ℕ → ℕ → ℕ
-weighed w e i j = pick (e i j) (w i j)
 
 pub box-sum : (n m top left height width : ℕ) → top + height ≤ n → left + width ≤ m → (w : ℕ → ℕ → ℕ) (e : Cells) → Inside top left height width e
     → weightSum n m w e ≡ xorSum height (λ r. xorSum width (λ d. weighed w e (top + r) (left + d)))

@@ -15,16 +15,16 @@ use native.Mathlib.Omega.{arith}
 use borrow.Author.Tests.{eq-eqb, ne-eqb}
 use Rattle.finite.specs.Search.{bit, anyBelow, countBelow, firstOf, pastOf}
 use Rattle.finite.proofs.Truth.{Truth, is-true, is-false, true-or-false, not-true, in-within}
-use Rattle.finite.proofs.Search.{any-found, any-here, any-none, any-equal, first-is, first-none, first-equal, past-above, past-equal}
+use Rattle.finite.proofs.Search.{any-found, any-here, any-none, any-equal, first-is, first-none, past-above}
 use Rattle.finite.proofs.Count.{count-equal, count-none, count-rise}
 use Rattle.boxcode.specs.Code.{Code, Formed}
 use Rattle.boxcode.specs.Syndrome.{Cells}
 use Rattle.boxcode.specs.Burst.{Inside, boxCells, burstFor}
-use Rattle.boxcode.specs.Reader.{cellCount, rowTouched, columnTouched, reportOf}
+use Rattle.boxcode.specs.Reader.{cellCount, rowTouched, columnTouched, reportOf, noReport}
 use Rattle.boxcode.proofs.Trial.{box-inside}
-use Rattle.boxcode.proofs.Report.{nothing, cells-flat, cells-none, cells-some, report-cells, report-none}
+use Rattle.boxcode.proofs.Report.{cells-flat, cells-none, cells-some, report-cells, report-none}
 use Rattle.mend.specs.Found.{IsBurst}
-use Rattle.mend.specs.Report.{rowHas, columnHas, noReport, boxReport, reportAs, anyOf, lineHas}
+use Rattle.mend.specs.Report.{boxReport, reportAs, anyOf, lineHas}
 use Rattle.mend.proofs.Runs.{Run, run-any, run-count, run-first, run-past}
 
 -- ---- the number of cells, by rows
@@ -90,6 +90,18 @@ module _ (n m top left b1 b2 x : ℕ) (rows : top + b1 ≤ n) (columns : left + 
       (λ i j li lj. not-true (e (top + (b1 + i)) j) (λ t. let u = inside .row-to (top + (b1 + i)) j t in omega arith))))
       ∙ (let z : 0 + (countBelow (b1 * b2) (bit x) + 0) ≡ countBelow (b1 * b2) (bit x) = omega arith in z)
 
+-- ---- rows and columns of the rectangle
+
+line-row : (x b2 r : ℕ) → lineHas x b2 1 b2 r ≡ anyBelow b2 (λ d. bit x (r * b2 + d))
+unfolding lineHas anyOf
+line-row x b2 r = any-equal b2 (λ l. bit x (r * b2 + l * 1)) (λ d. bit x (r * b2 + d)) (λ l h. ap (λ (n : ℕ). bit x (r * b2 + n)) (mul-one l))
+
+line-column : (x b1 b2 d : ℕ) → lineHas x 1 b2 b1 d ≡ anyBelow b1 (λ r. bit x (r * b2 + d))
+unfolding lineHas anyOf
+line-column x b1 b2 d =
+    any-equal b1 (λ l. bit x (d * 1 + l * b2)) (λ r. bit x (r * b2 + d))
+    (λ l h. ap (bit x) (let e : d * 1 + l * b2 ≡ l * b2 + d = omega arith in e))
+
 -- ---- the report
 
 module _ (c : Code) (top left x : ℕ) (pos : 0 < c .b2) (rows : top + c .b1 ≤ c .n1) (columns : left + c .b2 ≤ c .n2) where
@@ -100,24 +112,32 @@ module _ (c : Code) (top left x : ℕ) (pos : 0 < c .b2) (rows : top + c .b1 ≤
   unfolding cells
   in-box = box-inside top left (c .b1) (c .b2) x
 
-  rows-run : Run (c .n1) top (c .b1) (rowTouched c cells) (rowHas (c .b2) x)
-  unfolding rowTouched rowHas cells e
+  abbrev rowHas : ℕ → Bool
+  rowHas = lineHas x (c .b2) 1 (c .b2)
+
+  abbrev columnHas : ℕ → Bool
+  columnHas = lineHas x 1 (c .b2) (c .b1)
+
+  rows-run : Run (c .n1) top (c .b1) (rowTouched c cells) rowHas
+  unfolding rowTouched cells e
   rows-run = record {
     on = rows;
     same = λ r lr.
         run-any (c .n2) left (c .b2) (boxCells top left (c .b1) (c .b2) x (top + r)) (λ d. bit x (r * c .b2 + d))
-        (row-run (c .n1) (c .n2) top left (c .b1) (c .b2) x rows columns r lr);
+        (row-run (c .n1) (c .n2) top left (c .b1) (c .b2) x rows columns r lr)
+        ∙ sym (line-row x (c .b2) r);
     from = λ i t. let w = any-found (c .n2) (cells i) t in in-box .row-from i (w .0) (w .2);
     to = λ i t. let w = any-found (c .n2) (cells i) t in in-box .row-to i (w .0) (w .2);
   }
 
-  columns-run : Run (c .n2) left (c .b2) (columnTouched c cells) (columnHas (c .b1) (c .b2) x)
-  unfolding columnTouched columnHas cells e
+  columns-run : Run (c .n2) left (c .b2) (columnTouched c cells) columnHas
+  unfolding columnTouched cells e
   columns-run = record {
     on = columns;
     same = λ d ld.
         run-any (c .n1) top (c .b1) (λ i. boxCells top left (c .b1) (c .b2) x i (left + d)) (λ r. bit x (r * c .b2 + d))
-        (column-run (c .n1) (c .n2) top left (c .b1) (c .b2) x rows columns d ld);
+        (column-run (c .n1) (c .n2) top left (c .b1) (c .b2) x rows columns d ld)
+        ∙ sym (line-column x (c .b1) (c .b2) d);
     from = λ j t. let w = any-found (c .n1) (λ i. cells i j) t in in-box .column-from (w .0) j (w .2);
     to = λ j t. let w = any-found (c .n1) (λ i. cells i j) t in in-box .column-to (w .0) j (w .2);
   }
@@ -134,17 +154,16 @@ module _ (c : Code) (top left x : ℕ) (pos : 0 < c .b2) (rows : top + c .b1 ≤
     digit-home : bit x (k / c .b2 * c .b2 + k % c .b2) ≡ true
     digit-home = ap (bit x) (div-add-mod' k (c .b2)) ∙ t
 
-    some-row : anyBelow (c .b1) (rowHas (c .b2) x) ≡ true
-    unfolding rowHas
+    some-row : anyBelow (c .b1) rowHas ≡ true
     some-row =
-        any-here (c .b1) (rowHas (c .b2) x) (k / c .b2) (div-lt-iff-lt-mul pos .1 l)
-        (any-here (c .b2) (λ d. bit x (k / c .b2 * c .b2 + d)) (k % c .b2) (mod-lt k pos) digit-home)
+        any-here (c .b1) rowHas (k / c .b2) (div-lt-iff-lt-mul pos .1 l)
+        (line-row x (c .b2) (k / c .b2) ∙ any-here (c .b2) (λ d. bit x (k / c .b2 * c .b2 + d)) (k % c .b2) (mod-lt k pos) digit-home)
 
-    some-column : anyBelow (c .b2) (columnHas (c .b1) (c .b2) x) ≡ true
-    unfolding columnHas
+    some-column : anyBelow (c .b2) columnHas ≡ true
     some-column =
-        any-here (c .b2) (columnHas (c .b1) (c .b2) x) (k % c .b2) (mod-lt k pos)
-        (any-here (c .b1) (λ r. bit x (r * c .b2 + k % c .b2)) (k / c .b2) (div-lt-iff-lt-mul pos .1 l) digit-home)
+        any-here (c .b2) columnHas (k % c .b2) (mod-lt k pos)
+        (line-column x (c .b1) (c .b2) (k % c .b2)
+        ∙ any-here (c .b1) (λ r. bit x (r * c .b2 + k % c .b2)) (k / c .b2) (div-lt-iff-lt-mul pos .1 l) digit-home)
 
     count-some : count ≡ 0 → ⊥
     unfolding count
@@ -154,7 +173,7 @@ module _ (c : Code) (top left x : ℕ) (pos : 0 < c .b2) (rows : top + c .b1 ≤
   size-moved a f g f' g' p q = omega arith
 
   pub box-report : reportOf c (boxCells top left (c .b1) (c .b2) x) ≡ boxReport top left (c .b1) (c .b2) x
-  unfolding boxReport cells count nothing
+  unfolding boxReport cells count
   box-report = go (true-or-false (anyBelow (c .b1 * c .b2) (bit x)))
     where
       go : Truth (anyBelow (c .b1 * c .b2) (bit x)) → reportOf c (boxCells top left (c .b1) (c .b2) x) ≡ boxReport top left (c .b1) (c .b2) x
@@ -162,15 +181,17 @@ module _ (c : Code) (top left x : ℕ) (pos : 0 < c .b2) (rows : top + c .b1 ≤
           let z : count ≡ 0 = count-none (c .b1 * c .b2) (bit x) (any-none (c .b1 * c .b2) (bit x) t) in
           let n : cellCount (c .n1) (c .n2) cells ≡ 0 = cells-count ∙ z in
           rw (eq-eqb count 0 z)
-          (report-none c cells (λ i j li lj. not-true (cells i j) (λ u. let p : 0 < cellCount (c .n1) (c .n2) cells = cells-some (c .n1) (c .n2) cells i j li lj u in omega arith)))
+          (report-none c cells
+          (λ i j li lj.
+          not-true (cells i j) (λ u. let p : 0 < cellCount (c .n1) (c .n2) cells = cells-some (c .n1) (c .n2) cells i j li lj u in omega arith)))
       go (is-true t) =
           let w = any-found (c .b1 * c .b2) (bit x) t in
           let ar = some-row (w .0) (w .1) (w .2) in
           let ac = some-column (w .0) (w .1) (w .2) in
-          let fr = run-first (c .n1) top (c .b1) (rowTouched c cells) (rowHas (c .b2) x) rows-run ar in
-          let pr = run-past (c .n1) top (c .b1) (rowTouched c cells) (rowHas (c .b2) x) rows-run ar in
-          let fc = run-first (c .n2) left (c .b2) (columnTouched c cells) (columnHas (c .b1) (c .b2) x) columns-run ac in
-          let pc = run-past (c .n2) left (c .b2) (columnTouched c cells) (columnHas (c .b1) (c .b2) x) columns-run ac in
+          let fr = run-first (c .n1) top (c .b1) (rowTouched c cells) rowHas rows-run ar in
+          let pr = run-past (c .n1) top (c .b1) (rowTouched c cells) rowHas rows-run ar in
+          let fc = run-first (c .n2) left (c .b2) (columnTouched c cells) columnHas columns-run ac in
+          let pc = run-past (c .n2) left (c .b2) (columnTouched c cells) columnHas columns-run ac in
           rw (ne-eqb count 0 (count-some (w .0) (w .1) (w .2)))
           (unfold reportOf in λ i. record {
             cells = cells-count i;
@@ -186,16 +207,6 @@ found-report c F v s top left x b =
     ∙ box-report c top left x (F .b2-pos) (b .rows-on) (b .columns-on)
 
 -- ---- as the code finds it
-
-line-row : (x b2 r : ℕ) → lineHas x b2 1 b2 r ≡ rowHas b2 x r
-unfolding lineHas anyOf rowHas
-line-row x b2 r = any-equal b2 (λ l. bit x (r * b2 + l * 1)) (λ d. bit x (r * b2 + d)) (λ l h. ap (λ (n : ℕ). bit x (r * b2 + n)) (mul-one l))
-
-line-column : (x b1 b2 d : ℕ) → lineHas x 1 b2 b1 d ≡ columnHas b1 b2 x d
-unfolding lineHas anyOf columnHas
-line-column x b1 b2 d =
-    any-equal b1 (λ l. bit x (d * 1 + l * b2)) (λ r. bit x (r * b2 + d))
-    (λ l h. ap (bit x) (let e : d * 1 + l * b2 ≡ l * b2 + d = omega arith in e))
 
 pub first-past : (n f g : ℕ) (p : ℕ → Bool) → f ≡ firstOf n p → g ≡ pastOf n p → (f ≤ g) × (f ≤ n)
 first-past n f g p ef eg = let l = go (true-or-false (anyBelow n p)) in omega arith
@@ -220,11 +231,4 @@ module _ (top left b1 b2 x : ℕ) where
       ≡ reportAs (boxReport top left b1 b2 x)
   unfolding boxReport
   lines-report cells row column past-row past-column e ne er ec pr pc =
-      rw (
-        ne-eqb (countBelow (b1 * b2) (bit x)) 0 (λ z. ne (e ∙ z)),
-        e,
-        er ∙ first-equal b1 (lineHas x b2 1 b2) (rowHas b2 x) (λ k l. line-row x b2 k),
-        ec ∙ first-equal b2 (lineHas x 1 b2 b1) (columnHas b1 b2 x) (λ k l. line-column x b1 b2 k),
-        pr ∙ past-equal b1 (lineHas x b2 1 b2) (rowHas b2 x) (λ k l. line-row x b2 k),
-        pc ∙ past-equal b2 (lineHas x 1 b2 b1) (columnHas b1 b2 x) (λ k l. line-column x b1 b2 k),
-      )
+      rw (ne-eqb (countBelow (b1 * b2) (bit x)) 0 (λ z. ne (e ∙ z)), e, er, ec, pr, pc)

@@ -10,13 +10,13 @@ use mathlib.Core.Path.{_≡_}
 use mathlib.Core.Bool.{true, false, cond}
 use Rattle.boxcode.specs.Code.{Code}
 use Rattle.boxcode.specs.Burst.{boxCells, trialTop, trialLeft, trialPattern, firstTrial, hasBurst, burstFor}
-use Rattle.boxcode.specs.Reader.{reportOf}
+use Rattle.boxcode.specs.Reader.{reportOf, noReport}
 use Rattle.plan.specs.declared.verdict.Verdict.{Verdict}
 use Rattle.plan.specs.Verdict.{accepted, refusal}
 use Rattle.mend.specs.declared.report.Report.{Report}
 use Rattle.mend.specs.declared.found.Found.{Found}
 use Rattle.mend.specs.declared.found.Found.the-variants.{Burst, Nothing}
-use Rattle.mend.specs.Report.{noReport, reportAs}
+use Rattle.mend.specs.Report.{reportAs}
 
 abbrev pub foundVerdict : Found → Verdict
 foundVerdict (Burst top left x) = accepted

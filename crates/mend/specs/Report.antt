@@ -1,35 +1,32 @@
 -- The report of a pattern number in a rectangle (document 01: the five numbers of the reader's answer).
 --
---   rowHas b2 x r, columnHas b1 b2 x d   row r, and column d, of the rectangle has a cell
---   boxReport       how many cells, and the smallest rectangle that holds them; five zeros where there are none
---   reportAs        a report of the code's mathematics, as the code's struct
 --   anyOf           one of some digits is 1, from a place on and a step apart
 --   lineHas, Lines  a line of the rectangle, a row or a column, has a cell; the sizes for which lines are asked
+--   boxReport       how many cells, and the smallest rectangle that holds them; five zeros where there are none
+--   reportAs        a report of the code's mathematics, as the code's struct
 --
 -- That boxReport is the report of the rectangle's cells is `box-report`, in proofs/Rectangle.antt.
 use Prim.Native.Nat.{ℕ, _+_, _-_, _*_, _≤_}
 use mathlib.Core.Bool.{Bool, cond}
 use lib.Dec.{eqb}
 use Rattle.finite.specs.Search.{bit, anyBelow, countBelow, firstOf, pastOf}
-use Rattle.boxcode.specs.Reader.{Report}
+use Rattle.boxcode.specs.Reader.{Report, noReport}
 use Rattle.mend.specs.declared.report.Report as code
 
-unfoldable pub rowHas : ℕ → ℕ → ℕ → Bool
-rowHas b2 x r = anyBelow b2 (λ d. bit x (r * b2 + d))
+unfoldable pub anyOf : ℕ → ℕ → ℕ → ℕ → Bool
+anyOf x from step count = anyBelow count (λ l. bit x (from + l * step))
 
-unfoldable pub columnHas : ℕ → ℕ → ℕ → ℕ → Bool
-columnHas b1 b2 x d = anyBelow b1 (λ r. bit x (r * b2 + d))
+unfoldable pub lineHas : ℕ → ℕ → ℕ → ℕ → ℕ → Bool
+lineHas x jump step count k = anyOf x (k * jump) step count
 
-abbrev pub noReport : Report
-noReport = record { cells = 0; top = 0; left = 0; height = 0; width = 0 }
-
+-- row r is digits r × b2 on, one apart; column d is digits d on, b2 apart
 abbrev pub someReport : ℕ → ℕ → ℕ → ℕ → ℕ → Report
 someReport top left b1 b2 x = record {
   cells = countBelow (b1 * b2) (bit x);
-  top = top + firstOf b1 (rowHas b2 x);
-  left = left + firstOf b2 (columnHas b1 b2 x);
-  height = pastOf b1 (rowHas b2 x) - firstOf b1 (rowHas b2 x);
-  width = pastOf b2 (columnHas b1 b2 x) - firstOf b2 (columnHas b1 b2 x);
+  top = top + firstOf b1 (lineHas x b2 1 b2);
+  left = left + firstOf b2 (lineHas x 1 b2 b1);
+  height = pastOf b1 (lineHas x b2 1 b2) - firstOf b1 (lineHas x b2 1 b2);
+  width = pastOf b2 (lineHas x 1 b2 b1) - firstOf b2 (lineHas x 1 b2 b1);
 }
 
 unfoldable pub boxReport : ℕ → ℕ → ℕ → ℕ → ℕ → Report
@@ -37,12 +34,6 @@ boxReport top left b1 b2 x = cond (eqb (countBelow (b1 * b2) (bit x)) 0) noRepor
 
 abbrev pub reportAs : Report → code.Report
 reportAs r = record { cells = r .cells; top = r .top; left = r .left; height = r .height; width = r .width }
-
-unfoldable pub anyOf : ℕ → ℕ → ℕ → ℕ → Bool
-anyOf x from step count = anyBelow count (λ l. bit x (from + l * step))
-
-unfoldable pub lineHas : ℕ → ℕ → ℕ → ℕ → ℕ → Bool
-lineHas x jump step count k = anyOf x (k * jump) step count
 
 pub record Lines (jump step count lines : ℕ) : Type 0 where
   pub jump-most : jump ≤ 4

@@ -1,5 +1,7 @@
 -- What is put and taken, place by place:
 --
+--   putTo c x t     the cells of the filled sheet at the first t places, and no others
+--   takenTo c s t   the data that stands at the first t places, and no other
 --   put-first, put-next, put-step, put-all       nothing is put, one place more, the filled sheet
 --   take-first, take-next, take-step, take-all   nothing is taken, one place more, all data
 --
@@ -14,7 +16,7 @@ use borrow.Author.Tests.{eqb-true, eq-eqb, lt-ltb, le-ltb}
 use lib.Dec.{eqb, ltb}
 use lib.ListN.{replicate}
 use Rattle.finite.specs.Search.{countBelow}
-use Rattle.finite.proofs.Truth.{xor-none, and-left, and-right, not-true}
+use Rattle.finite.proofs.Truth.{xor-none, xor-light, and-left, and-right, and-true, and-false, not-true}
 use Rattle.layout.specs.Cells.{sheetBytes, cellOf, bytesOf, turnedIf}
 use Rattle.finite.proofs.Digits.{bit-none}
 use Rattle.layout.proofs.Form.{bytes-equal, zeros-bytes}
@@ -25,21 +27,14 @@ use Rattle.boxcode.specs.Check.{Bits, checkAt, checkIndex, dataOrder, dataSize,
 use Rattle.boxcode.proofs.Check.{order-below, order-twice, number-row, number-column, number-on, dataAt, data-count}
 use Rattle.payload.specs.declared.cursor.Cursor.{Cursor}
 use Rattle.payload.specs.Walk.{atCheck, At}
-use Rattle.payload.specs.Transfer.{putTo, takenTo, putBit, takeBit}
+use Rattle.payload.specs.Transfer.{putBit, takeBit}
 use Rattle.payload.proofs.Stand.{at-row, at-number, at-check, rank-kept, at-rank, at-below, at-bit}
 
-and-true : (a : Bool) → (a && true) ≡ a
-and-true true = refl
-and-true false = refl
+unfoldable pub putTo : Code → Bits → ℕ → Cells
+putTo c x t i j = ltb (dataOrder c (cellNumber c i j)) t && fill c x 0 i j
 
-and-false : (a : Bool) → (a && false) ≡ false
-and-false true = refl
-and-false false = refl
-
-xor-light : (a : Bool) → xor false a ≡ a
-unfolding xor
-xor-light true = refl
-xor-light false = refl
+unfoldable pub takenTo : Code → Cells → ℕ → Cells
+takenTo c s t i d = ltb d (rank c t) && dataOf c s d
 
 -- place t is added to the places before it: e says that u is t, dark what stands there
 grow : (u t : ℕ) (dark f e : Bool) → (u ≡ t → (e ≡ true) × (f ≡ dark)) → ((u ≡ t → ⊥) → e ≡ false)

@@ -1,7 +1,7 @@
 -- The promise, proved: one declaration for each theorem of specs/Promise.antt, of that type. A written sheet with a burst on
 -- it is fitted by that burst, so it is read back; and from equal sheets the same data is read.
 --
---   plan-test, written-once, writes, apart, read-back, read-clean, answers, one-burst, reports, turns
+--   plan-test, written-once, leaves, apart, read-back, read-clean, answers, one-burst, reports, turns
 --
 -- Assumes nothing.
 use mathlib.Core.Path.{_≡_, refl, sym, ap, ap₂, _∙_}
@@ -16,7 +16,7 @@ use Rattle.boxcode.specs.Check.{dataSize, written}
 use Rattle.boxcode.specs.Reader.{Report, reportOf}
 use Rattle.boxcode.proofs.Burst.{burst-on, burst-none}
 use Rattle.boxcode.proofs.Fill.{data-cells}
-use Rattle.boxcode.proofs.Report.{nothing, report-inside, report-least, report-none}
+use Rattle.boxcode.proofs.Report.{report-inside, report-least, report-none}
 use Rattle.boxcode.proofs.Theorems.{at-most-one, written-data, written-only}
 use Rattle.plan.specs.declared.verdict.Verdict.{Verdict}
 use Rattle.plan.specs.Verdict.{accepted}
@@ -76,9 +76,9 @@ module _ (plan : List ℕ) (A : Accepted plan) (bits : List ℕ) (right : DataFo
 pub written-once : promise.WrittenOnce
 written-once plan ok bits right = written-sheet plan (accepted-plan plan ok) bits right
 
-pub writes : promise.Writes
+pub leaves : promise.Leaves
 unfolding write
-writes plan ok bits old right l = rw checks
+leaves plan ok bits old right l = rw checks
   where
     checks : writeChecks plan bits old ≡ accepted
     checks =
@@ -136,7 +136,6 @@ read-back plan ok bits old e right B l =
     ∙ ap₂ (readAs (reportOf (codeOf plan) e)) back (ap (dataIn plan) back ∙ W .holds)
 
 pub read-clean : promise.ReadClean
-unfolding nothing
 read-clean plan ok bits old right l =
     let w = writtenBytes plan bits in
     ap (λ (s : List ℕ). readOutcome plan s old) (sym (corrupted-none plan w (written-once plan ok bits right .form)))
@@ -159,7 +158,6 @@ reports plan e B =
       count = unfold reportOf in refl;
       holds = report-inside (codeOf plan) e on;
       least = λ i j t top left height width h.
-          let r = report-least (codeOf plan) top left height width e h i j (on .rows i j t) (on .columns i j t) t in
-          record { above = r .above; under = r .under; before = r .before; past = r .past };
-      none = λ h. unfold nothing in report-none (codeOf plan) e (λ i j li lj. h i j);
+          report-least (codeOf plan) top left height width e h i j (on .rows i j t) (on .columns i j t) t;
+      none = λ h. report-none (codeOf plan) e (λ i j li lj. h i j);
     }

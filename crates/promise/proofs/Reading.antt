@@ -26,7 +26,7 @@ use Rattle.accept.specs.Verdict.{Accepted}
 use Rattle.buffers.specs.Buffers.{readChecks}
 use Rattle.buffers.proofs.Passing.{reads-pass}
 use Rattle.mend.specs.Report.{reportAs}
-use Rattle.mend.proofs.First.{first-verdict, first-report, first-none}
+use Rattle.mend.proofs.First.{first-verdict, first-report, first-nothing}
 use Rattle.reader.specs.Read.{refused, taken, burstIn, readVerdict, sheetRead, bitsRead, reportRead, readOutcome}
 use Rattle.promise.specs.Promise.{SheetFor, BufferFor, BurstOn, FitsOn, NoneFits, SomeFits, cellsOf, dataIn, corrupted, readAs}
 use Rattle.promise.proofs.Corrupted.{corrupted-cell, fits-cells, cells-fit}
@@ -47,7 +47,7 @@ module _ (plan : List ℕ) (A : Accepted plan) (sheet old : List ℕ) (form : Sh
 
   pub reads-refused : mendable c s ≡ false → readOutcome plan sheet old ≡ refused (refusal 14 0 0) sheet old
   unfolding readOutcome readVerdict _orElse_ burstIn mendable
-  reads-refused t = rw (checks, first-none c _ _ t)
+  reads-refused t = rw (checks, first-nothing c _ _ t)
 
   pub refused-as : NoneFits plan sheet → readOutcome plan sheet old ≡ refused (refusal 14 0 0) sheet old
   refused-as h =

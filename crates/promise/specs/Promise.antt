@@ -16,15 +16,15 @@
 --
 --   PlanTest               the test gives 0 exactly if the plan meets the rules of form and the three conditions
 --   WrittenOnce            the written sheet is the one sheet of the right form that belongs and holds the data (Written)
---   Writes                 the writer gives it, whatever the buffer held
+--   Leaves                 the writer leaves it, whatever the buffer held
 --   Apart                  sheets written from different data, each with a burst on it, are never equal
 --   ReadBack, ReadClean    a written sheet with one burst on it, or none, is read back whole
 --   Answers                the reader answers 14 exactly if no burst fits, and otherwise mends the sheet (Answered)
 --   OneBurst               at most one burst, as a set of cells, fits
 --   Reports                the report is the number of cells and the smallest rectangle that holds them; five zeros for
---                          none (Reported, Within)
+--                          none (Reported)
 --   Turns                  what it is to turn over the cells of a burst; for the empty one, nothing (Turned)
-use Prim.Native.Nat.{ℕ, _+_, _≤_, _<_}
+use Prim.Native.Nat.{ℕ, _<_}
 use mathlib.Core.Path.{_≡_}
 use mathlib.Core.Bool.{true, false, xor}
 use mathlib.Core.Logic.{_↔_, _⊎_}
@@ -34,12 +34,12 @@ use Rattle.layout.specs.Cells.{rowBytes, sheetBytes, cellOf, RightForm, bytesOf
 use Rattle.boxcode.specs.Syndrome.{Cells, Belongs, flip}
 use Rattle.boxcode.specs.Burst.{Inside, Burst}
 use Rattle.boxcode.specs.Check.{dataSize, dataOf}
-use Rattle.boxcode.specs.Reader.{Report, cellCount, reportOf}
+use Rattle.boxcode.specs.Reader.{Report, cellCount, reportOf, noReport, LiesIn}
 use Rattle.plan.specs.Verdict.{accepted, refusal}
 use Rattle.plan.specs.Bytes.{codeOf}
 use Rattle.accept.specs.Verdict.{planVerdict, Accepted}
-use Rattle.mend.specs.Report.{noReport, reportAs}
-use Rattle.writer.specs.Write.{writtenBytes, write, outcome}
+use Rattle.mend.specs.Report.{reportAs}
+use Rattle.writer.specs.Write.{writtenBytes, write, wrote}
 use Rattle.reader.specs.Read.{Outcome, refused, readOutcome}
 
 -- ---- the words
@@ -104,9 +104,9 @@ pub record Written (plan bits : List ℕ) : Type 0 where
 abbrev pub WrittenOnce : Type 0
 WrittenOnce = (plan : List ℕ) → Passes plan → (bits : List ℕ) → DataFor plan bits → Written plan bits
 
-abbrev pub Writes : Type 0
-Writes = (plan : List ℕ) → Passes plan → (bits old : List ℕ) → DataFor plan bits → PageFor plan old
-    → write plan bits old ≡ outcome accepted (writtenBytes plan bits)
+abbrev pub Leaves : Type 0
+Leaves = (plan : List ℕ) → Passes plan → (bits old : List ℕ) → DataFor plan bits → PageFor plan old
+    → write plan bits old ≡ wrote accepted (writtenBytes plan bits)
 
 -- ---- the three theorems
 
@@ -145,18 +145,11 @@ OneBurst = (plan : List ℕ) → Passes plan → (sheet : List ℕ) (e e' : Cell
 
 -- ---- the five numbers, and what it is to turn cells over
 
--- the rectangle of a report lies in another
-pub record Within (r : Report) (top left height width : ℕ) : Type 0 where
-  pub above : top ≤ r .top
-  pub under : r .top + r .height ≤ top + height
-  pub before : left ≤ r .left
-  pub past : r .left + r .width ≤ left + width
-
 pub record Reported (plan : List ℕ) (e : Cells) (r : Report) : Type 0 where
   pub count : r .cells ≡ cellCount (codeOf plan .n1) (codeOf plan .n2) e
   pub holds : Inside (r .top) (r .left) (r .height) (r .width) e
   -- for a burst that has a cell (i, j)
-  pub least : (i j : ℕ) → e i j ≡ true → (top left height width : ℕ) → Inside top left height width e → Within r top left height width
+  pub least : (i j : ℕ) → e i j ≡ true → (top left height width : ℕ) → Inside top left height width e → LiesIn r top left height width
   pub none : ((i j : ℕ) → e i j ≡ false) → r ≡ noReport
 
 abbrev pub Reports : Type 0

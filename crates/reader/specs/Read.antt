@@ -20,13 +20,13 @@ use Rattle.layout.specs.Cells.{cellOf, bytesOf}
 use Rattle.boxcode.specs.Code.{Code}
 use Rattle.boxcode.specs.Check.{dataSize, dataOf}
 use Rattle.boxcode.specs.Syndrome.{rowSyndrome, columnSyndrome}
-use Rattle.boxcode.specs.Reader.{mended}
+use Rattle.boxcode.specs.Reader.{mended, noReport}
 use Rattle.plan.specs.declared.verdict.Verdict.{Verdict}
 use Rattle.plan.specs.Verdict.{accepted, _orElse_}
 use Rattle.plan.specs.Bytes.{codeOf}
 use Rattle.buffers.specs.Buffers.{readChecks}
 use Rattle.mend.specs.declared.report.Report.{Report}
-use Rattle.mend.specs.Report.{noReport, reportAs}
+use Rattle.mend.specs.Report.{reportAs}
 use Rattle.mend.specs.declared.found.Found.{Found}
 use Rattle.mend.specs.Found.{foundVerdict, foundReport, firstBurst}
 use Rattle.reader.specs.declared.answer.Answer.{Answer}

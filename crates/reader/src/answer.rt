@@ -1,6 +1,7 @@
 // The answer of the reader.
 ghost use mathlib.Core.Path.{_≡_};
-ghost use Rattle.mend.specs.Report.{noReport, reportAs};
+ghost use Rattle.boxcode.specs.Reader.{noReport};
+ghost use Rattle.mend.specs.Report.{reportAs};
 use mend::report::Report;
 use plan::verdict::Verdict;
 

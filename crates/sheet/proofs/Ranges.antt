@@ -17,7 +17,7 @@ use lib.ListN.{length}
 use Rattle.layout.specs.Cells.{rowBytes, sheetBytes, firstUnused, cellOf}
 use Rattle.boxcode.specs.Code.{Code, Formed}
 use Rattle.boxcode.specs.Check.{dataSize}
-use Rattle.boxcode.specs.Reader.{mendable, change}
+use Rattle.boxcode.specs.Reader.{mendable, change, noReport}
 use Rattle.boxcode.proofs.Reader.{change-burst}
 use Rattle.boxcode.proofs.Report.{burst-report}
 use Rattle.plan.specs.declared.verdict.Verdict.{Verdict}
@@ -29,7 +29,7 @@ use Rattle.accept.proofs.Range.{Fits, accepted-fits, else-fits, if-fits, at-fit
 use Rattle.buffers.specs.Buffers.{lengthVerdict, unusedVerdict, writeChecks, readChecks}
 use Rattle.buffers.proofs.Passing.{bytes-most, size-most}
 use Rattle.mend.specs.declared.report.Report.{Report}
-use Rattle.mend.specs.Report.{noReport, reportAs}
+use Rattle.mend.specs.Report.{reportAs}
 use Rattle.mend.specs.declared.found.Found.{Found}
 use Rattle.mend.specs.declared.found.Found.the-variants.{Burst, Nothing}
 use Rattle.mend.specs.Found.{foundVerdict}

@@ -3,8 +3,8 @@
 --   verdictFields   an answer that has a number and places alone
 --   reportFields    an answer of the reader
 --   planAnswer      the answer of the test of a plan: checks 1 to 10 in order, the first that fails, packed
---   Written, writeCall   the answer of writing, packed, and every byte of the sheet after it
---   Read, readCall       the answer of reading, packed, and every byte of the sheet and of the data buffer after it
+--   WriteReply, writeCall   the answer of writing, packed, and every byte of the sheet after it
+--   ReadReply, readCall     the answer of reading, packed, and every byte of the sheet and of the data buffer after it
 use Prim.Native.Nat.{ℕ}
 use mathlib.Core.List.{List}
 use Rattle.answer.specs.Answer.{Fields, packed}
@@ -32,28 +32,28 @@ reportFields v r = record {
 unfoldable pub planAnswer : List ℕ → ℕ
 planAnswer s = packed (verdictFields (planVerdict s))
 
-pub record Written : Type 0 where
+pub record WriteReply : Type 0 where
   pub answer : ℕ
   pub sheet : List ℕ
 
-unfoldable pub writeCall : List ℕ → List ℕ → List ℕ → Written
+unfoldable pub writeCall : List ℕ → List ℕ → List ℕ → WriteReply
 writeCall plan bits sheet =
     let o = write plan bits sheet in
     record { answer = packed (verdictFields (o .verdict)); sheet = o .sheet }
 
-pub record Read : Type 0 where
+pub record ReadReply : Type 0 where
   pub answer : ℕ
   pub sheet : List ℕ
   pub bits : List ℕ
 
-unfoldable pub readCall : List ℕ → List ℕ → List ℕ → Read
+unfoldable pub readCall : List ℕ → List ℕ → List ℕ → ReadReply
 readCall plan sheet bits =
     let o = readOutcome plan sheet bits in
     record { answer = packed (reportFields (o .verdict) (o .report)); sheet = o .sheet; bits = o .bits }
 
 -- an answer with the buffers after it
-abbrev pub written : ℕ → List ℕ → Written
-written a s = record { answer = a; sheet = s }
+abbrev pub writeReply : ℕ → List ℕ → WriteReply
+writeReply a s = record { answer = a; sheet = s }
 
-abbrev pub readTo : ℕ → List ℕ → List ℕ → Read
-readTo a s b = record { answer = a; sheet = s; bits = b }
+abbrev pub readReply : ℕ → List ℕ → List ℕ → ReadReply
+readReply a s b = record { answer = a; sheet = s; bits = b }

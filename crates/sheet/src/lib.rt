@@ -1,7 +1,7 @@
 // The calls for C (include/sheet.h). Each takes whatever it is handed, and answers one 64-bit number (docs/ANSWER.md).
 // A call that turns something back changes no byte of any buffer. The data buffer is called bits here.
 ghost use mathlib.Core.Path.{_≡_};
-ghost use Rattle.sheet.specs.Calls.{planAnswer, written, writeCall, readTo, readCall};
+ghost use Rattle.sheet.specs.Calls.{planAnswer, writeReply, writeCall, readReply, readCall};
 use accept::test::test;
 use answer::Answer;
 use answer::pack;
@@ -29,7 +29,7 @@ pub extern "C" fn sheet_plan_test(plan: &[u8]) -> u64
 // Writes the sheet that carries the data: every byte of it, whatever it held.
 #[no_mangle]
 pub extern "C" fn sheet_write(plan: &[u8], bits: &[u8], sheet: &mut [u8]) -> u64
-    ensures { λ r. ⌜ written r (now (sheet .exit)) ≡ writeCall (now (plan .entry)) (now (bits .entry)) (now (sheet .entry)) ⌝ }
+    ensures { λ r. ⌜ writeReply r (now (sheet .exit)) ≡ writeCall (now (plan .entry)) (now (bits .entry)) (now (sheet .entry)) ⌝ }
 {
     let wrote = write(plan, bits, sheet);
     pack(Answer {
@@ -47,7 +47,7 @@ pub extern "C" fn sheet_write(plan: &[u8], bits: &[u8], sheet: &mut [u8]) -> u64
 // Reads a sheet: mends it in place, writes its data, and tells which cells were turned over.
 #[no_mangle]
 pub extern "C" fn sheet_read(plan: &[u8], sheet: &mut [u8], bits: &mut [u8]) -> u64
-    ensures { λ r. ⌜ readTo r (now (sheet .exit)) (now (bits .exit)) ≡ readCall (now (plan .entry)) (now (sheet .entry)) (now (bits .entry)) ⌝ }
+    ensures { λ r. ⌜ readReply r (now (sheet .exit)) (now (bits .exit)) ≡ readCall (now (plan .entry)) (now (sheet .entry)) (now (bits .entry)) ⌝ }
 {
     let a = read(plan, sheet, bits);
     let v = a.verdict;

@@ -1,5 +1,6 @@
 -- The sums of the first rows of a sheet:
 --
+--   FirstRows     two numbers are the two sums of the first n rows
 --   rows-first    no rows have the sums 0
 --   rows-next     one row more
 --   rows-all      all rows have the sums of the sheet
@@ -17,7 +18,10 @@ use Rattle.gf2.proofs.Sum.{sum-none, sum-next}
 use Rattle.boxcode.specs.Code.{Code, rowWeight, columnWeight}
 use Rattle.boxcode.specs.Syndrome.{Cells, weightSum, rowSyndrome, columnSyndrome}
 use Rattle.syndrome.specs.declared.sums.Sums.{Sums}
-use Rattle.syndrome.specs.Gather.{rowSum, TwoSums, FirstRows}
+use Rattle.syndrome.specs.Gather.{rowSum, TwoSums}
+
+abbrev pub FirstRows : Code → ℕ → Cells → Sums → Type 0
+FirstRows c n s r = TwoSums (weightSum n (c .n2) (rowWeight c) s) (weightSum n (c .n2) (columnWeight c) s) r
 
 module _ (n2 : ℕ) (w : ℕ → ℕ → ℕ) (s : Cells) where
   weight-none : weightSum 0 n2 w s ≡ 0

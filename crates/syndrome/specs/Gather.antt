@@ -8,7 +8,6 @@
 --   TwoSums v h r        r has the sums v and h, which have at most 32 bits
 --   ByteSums .. r        r has the two sums of the cells from column j on that stand in the byte x
 --   RowSums c s i r      r has the two sums of row i of the sheet s
---   FirstRows c n s r    r has the two sums of the first n rows
 --   SheetSums c s r      r has the two sums of the sheet
 use Prim.Native.Nat.{ℕ, _+_, _-_, _*_, _%_, _≤_, _<_, min}
 use mathlib.Core.Path.{_≡_}
@@ -17,7 +16,7 @@ use lib.ListN.{length, getD}
 use Rattle.finite.specs.Search.{bit}
 use Rattle.gf2.specs.Sum.{chosenSum}
 use Rattle.boxcode.specs.Code.{Code, rowWeight, columnWeight}
-use Rattle.boxcode.specs.Syndrome.{Cells, weightSum, rowSyndrome, columnSyndrome}
+use Rattle.boxcode.specs.Syndrome.{Cells, rowSyndrome, columnSyndrome}
 use Rattle.syndrome.specs.declared.sums.Sums.{Sums}
 
 unfoldable pub rowSum : ℕ → (ℕ → ℕ → ℕ) → Cells → ℕ → ℕ
@@ -60,9 +59,6 @@ ByteSums n2 b1 b2 q rows columns x j r =
 
 abbrev pub RowSums : Code → Cells → ℕ → Sums → Type 0
 RowSums c s i r = TwoSums (rowSum (c .n2) (rowWeight c) s i) (rowSum (c .n2) (columnWeight c) s i) r
-
-abbrev pub FirstRows : Code → ℕ → Cells → Sums → Type 0
-FirstRows c n s r = TwoSums (weightSum n (c .n2) (rowWeight c) s) (weightSum n (c .n2) (columnWeight c) s) r
 
 abbrev pub SheetSums : Code → Cells → Sums → Type 0
 SheetSums c s r = TwoSums (rowSyndrome c s) (columnSyndrome c s) r

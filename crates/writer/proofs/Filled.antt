@@ -19,7 +19,7 @@ use borrow.Author.Tests.{eqb-true, eq-eqb, ne-eqb, lt-ltb, le-ltb}
 use lib.Dec.{eqb, ltb}
 use lib.ListN.{length, getD, length-set}
 use Rattle.finite.specs.Search.{bit, numberOf}
-use Rattle.finite.proofs.Truth.{clash, not-true, same-truth, xor-none, both-equal, equal-both}
+use Rattle.finite.proofs.Truth.{clash, not-true, same-truth, and-true, and-false, xor-none, xor-light, both-equal, equal-both}
 use Rattle.finite.proofs.Digits.{bit-none, bit-number}
 use Rattle.gf2.specs.Xor.{_⊕_}
 use Rattle.gf2.specs.Sum.{chosenSum}
@@ -50,15 +50,6 @@ turned-size c y zero s = refl
 turned-size c y (suc n) s =
     turned-if-length (bit y n) (c .n2) (turnedTo c y n s) (c .checkRow n) (c .checkColumn n) ∙ turned-size c y n s
 
-and-false : (a : Bool) → (a && false) ≡ false
-and-false true = refl
-and-false false = refl
-
-and-true : (a : Bool) → xor false (a && true) ≡ a
-unfolding xor
-and-true true = refl
-and-true false = refl
-
 -- digit n is added to the digits below n
 digit-more : (n j y : ℕ) → xor (ltb j n && bit y j) (bit y n && eqb n j) ≡ (ltb j (suc n) && bit y j)
 digit-more n j y = go (ℕ-discrete j n)
@@ -68,7 +59,7 @@ digit-more n j y = go (ℕ-discrete j n)
     kept h (no l) = le-ltb j n (omega arith) ∙ sym (le-ltb j (suc n) (omega arith))
 
     go : Dec (j ≡ n) → xor (ltb j n && bit y j) (bit y n && eqb n j) ≡ (ltb j (suc n) && bit y j)
-    go (yes e) = rw (le-ltb j n (omega arith), eq-eqb n j (sym e), lt-ltb j (suc n) (omega arith)) (and-true (bit y n) ∙ ap (bit y) (sym e))
+    go (yes e) = rw (le-ltb j n (omega arith), eq-eqb n j (sym e), lt-ltb j (suc n) (omega arith)) (xor-light (bit y n && true) ∙ and-true (bit y n) ∙ ap (bit y) (sym e))
     go (no h) =
         ap₂ (λ (a b : Bool). xor (a && bit y j) (bit y n && b)) (kept h (decLt j n)) (ne-eqb n j (λ e. h (sym e)))
         ∙ ap (xor (ltb j (suc n) && bit y j)) (and-false (bit y n))

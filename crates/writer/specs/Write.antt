@@ -2,7 +2,7 @@
 --
 --   dataBits k s             the string of k bits in the bytes s: one row of k cells
 --   writtenBytes plan bits   every byte of the sheet written from the data under the plan
---   Outcome                  what a call leaves: its answer and the bytes of the sheet
+--   Wrote, wrote             what a call leaves: its answer and the bytes of the sheet
 --   write plan bits sheet    the outcome of writing: number 0 and the written sheet, or the first check that fails and the
 --                            sheet as it was
 use Prim.Native.Nat.{ℕ}
@@ -21,14 +21,14 @@ dataBits k s d = cellOf k s 0 d
 unfoldable pub writtenBytes : List ℕ → List ℕ → List ℕ
 writtenBytes plan bits = let c = codeOf plan in bytesOf (c .n1) (c .n2) (written c (dataBits (dataSize c) bits))
 
-pub record Outcome : Type 0 where
+pub record Wrote : Type 0 where
   pub verdict : Verdict
   pub sheet : List ℕ
 
-abbrev pub outcome : Verdict → List ℕ → Outcome
-outcome v s = record { verdict = v; sheet = s }
+abbrev pub wrote : Verdict → List ℕ → Wrote
+wrote v s = record { verdict = v; sheet = s }
 
-unfoldable pub write : List ℕ → List ℕ → List ℕ → Outcome
+unfoldable pub write : List ℕ → List ℕ → List ℕ → Wrote
 write plan bits sheet =
     let v = writeChecks plan bits sheet in
-    outcome v (cond (eqb (v .number) 0) (writtenBytes plan bits) sheet)
+    wrote v (cond (eqb (v .number) 0) (writtenBytes plan bits) sheet)

@@ -7,7 +7,7 @@ ghost use Rattle.boxcode.specs.Condition.{Conditions};
 ghost use Rattle.boxcode.specs.Check.{dataSize, written};
 ghost use Rattle.plan.specs.Header.{Framed};
 ghost use Rattle.plan.specs.Bytes.{codeWith};
-ghost use Rattle.writer.specs.Write.{dataBits, outcome, write};
+ghost use Rattle.writer.specs.Write.{dataBits, wrote, write};
 use crate::solving::check_digits;
 use crate::solving::joint_sum;
 use crate::turning::turn_checks;
@@ -34,7 +34,7 @@ fn write_sheet(plan: &[u8], h: Header, bits: &[u8], sheet: &mut [u8])
 
 // Writes the data under the plan, or turns back with the sheet as it was.
 pub fn write(plan: &[u8], bits: &[u8], sheet: &mut [u8]) -> Verdict
-    ensures { λ r. ⌜ outcome r (now (sheet .exit)) ≡ write (now (plan .entry)) (now (bits .entry)) (now (sheet .entry)) ⌝ }
+    ensures { λ r. ⌜ wrote r (now (sheet .exit)) ≡ write (now (plan .entry)) (now (bits .entry)) (now (sheet .entry)) ⌝ }
 {
     let verdict = write_checks(plan, bits, sheet);
     if verdict.number != 0 {

@@ -3,7 +3,7 @@ use mathlib.Core.Path.{ap}
 use native.Mathlib.Omega.{arith}
 use Rattle.answer.specs.Answer.{InRange, packed}
 use Rattle.reader.specs.Read.{Outcome}
-use Rattle.sheet.specs.Calls.{reportFields, readTo, readCall}
+use Rattle.sheet.specs.Calls.{reportFields, readReply, readCall}
 use Rattle.sheet.proofs.Ranges.{read-range}
 use borrow.Author.Needs.{needs}
 use Rattle.sheet.proofs.sheet_read.Statement.{statement}
@@ -31,7 +31,7 @@ returns : tie.Need-returns
 unfolding readCall
 returns c =
     let b = c .before .before .before .before .before .before .before in
-    rw (c .pack .ensures) (ap (λ (o : Outcome). readTo (packed (reportFields (o .verdict) (o .report))) (o .sheet) (o .bits)) (b .read .ensures))
+    rw (c .pack .ensures) (ap (λ (o : Outcome). readReply (packed (reportFields (o .verdict) (o .report))) (o .sheet) (o .bits)) (b .read .ensures))
 
 pub sheet-read-spec : {M : Type 1} → statement M
 sheet-read-spec =

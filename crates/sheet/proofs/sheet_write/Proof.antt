@@ -2,8 +2,8 @@
 use mathlib.Core.Path.{ap}
 use native.Mathlib.Omega.{arith}
 use Rattle.answer.specs.Answer.{InRange, packed}
-use Rattle.writer.specs.Write.{Outcome}
-use Rattle.sheet.specs.Calls.{verdictFields, written, writeCall}
+use Rattle.writer.specs.Write.{Wrote}
+use Rattle.sheet.specs.Calls.{verdictFields, writeReply, writeCall}
 use Rattle.sheet.proofs.Ranges.{write-range}
 use borrow.Author.Needs.{needs}
 use Rattle.sheet.proofs.sheet_write.Statement.{statement}
@@ -17,7 +17,7 @@ pack-requires c κs =
     let s = c .before .before .before .before .before .before .before .args in
     let w = c .before .before .write in
     let f : InRange (verdictFields (w .result)) =
-    rw (ap (λ (o : Outcome). verdictFields (o .verdict)) (w .ensures)) (write-range (s .plan .now) (s .bits .now) (s .sheet .now)) in
+    rw (ap (λ (o : Wrote). verdictFields (o .verdict)) (w .ensures)) (write-range (s .plan .now) (s .bits .now) (s .sheet .now)) in
     omega arith
 
 same-length : tie.Need-same-length
@@ -26,7 +26,7 @@ same-length c = search needs
 returns : tie.Need-returns
 unfolding writeCall
 returns c =
-    rw (c .pack .ensures) (ap (λ (o : Outcome). written (packed (verdictFields (o .verdict))) (o .sheet)) (c .before .before .before .write .ensures))
+    rw (c .pack .ensures) (ap (λ (o : Wrote). writeReply (packed (verdictFields (o .verdict))) (o .sheet)) (c .before .before .before .write .ensures))
 
 pub sheet-write-spec : {M : Type 1} → statement M
 sheet-write-spec = tie.close (tie.spec write-requires pack-requires same-length returns)

@@ -4,20 +4,13 @@ use Prim.Native.Nat.{ℕ, _*_, _≤_}
 use native.Mathlib.Omega.{arith}
 use borrow.Author.Needs.{needs}
 use mathlib.Core.List.{List}
-use Rattle.gf2.specs.Solver.{solved, solverOf}
-use Rattle.gf2.specs.declared.Solver.{Solver}
-use Rattle.gf2.specs.declared.Solution.{Solution}
+use Rattle.gf2.proofs.Answer.{solved-from}
 use Rattle.plan.specs.Bytes.{codeWith}
 use Rattle.mend.proofs.Turns.{small-burst, box-size}
 use Rattle.mend.proofs.Window.{fit-solved}
 use lib.Seq.{length-take-le}
 use Rattle.mend.proofs.fit.window_fit.Statement.{statement}
 use Rattle.mend.proofs.fit.window_fit.Tie as tie
-
--- what the solver answers, from the steps that lead to it
-answer : (r : Solution) (s : Solver) (vs ws : List ℕ) (v : ℕ) (t : Solution) → r ≡ solved (s .basis) (s .combos) v → s ≡ solverOf ws → ws ≡ vs → r ≡ t
-    → solved (solverOf vs .basis) (solverOf vs .combos) v ≡ t
-answer r s vs ws v t a b e q = rw (← e, ← b, ← a) q
 
 few : (c : tie.Start) → c .args .h .b1 * c .args .h .b2 ≤ 16
 few c = box-size (small-burst (c .pre .0 .framed .small))
@@ -51,14 +44,14 @@ returns c =
     let w = c .before .before .before .before .before .before .before .before in
     let a = w .before .before .before .before .before in
     fit-solved (codeWith (a .args .plan .now) (a .args .h)) (a .pre .0 .formed) (a .args .i) (a .pre .1) (a .pre .0 .conditions) (a .args .v) (omega arith) _
-    (answer _ _ _ _ _ _ (c .before .before .before .solve .ensures) (w .solver-of .ensures) (w .before .before .before .gather .ensures .entries) (c .before .x .given .1))
+    (solved-from _ _ _ _ _ _ (c .before .before .before .solve .ensures) (w .solver-of .ensures) (w .before .before .before .gather .ensures .entries) (c .before .x .given .1))
 
 returns-2 : tie.Need-returns-2
 returns-2 c =
     let w = c .before .before .before .before .before .before .before in
     let a = w .before .before .before .before .before in
     fit-solved (codeWith (a .args .plan .now) (a .args .h)) (a .pre .0 .formed) (a .args .i) (a .pre .1) (a .pre .0 .conditions) (a .args .v) (omega arith) _
-    (answer _ _ _ _ _ _ (c .before .before .solve .ensures) (w .solver-of .ensures) (w .before .before .before .gather .ensures .entries) (c .enum-told .given .1))
+    (solved-from _ _ _ _ _ _ (c .before .before .solve .ensures) (w .solver-of .ensures) (w .before .before .before .gather .ensures .entries) (c .enum-told .given .1))
 
 pub window-fit-spec : {M : Type 1} → statement M
 window-fit-spec =

@@ -9,10 +9,9 @@ use Rattle.boxcode.specs.Check.{dataSize}
 use Rattle.boxcode.proofs.Check.{checks-fit}
 use Rattle.plan.specs.Bytes.{codeWith}
 use Rattle.payload.specs.Walk.{At}
-use Rattle.payload.specs.Transfer.{putTo}
 use Rattle.payload.proofs.Size.{cells-most, place-inside}
 use Rattle.payload.proofs.Stand.{at-row, at-below}
-use Rattle.payload.proofs.Progress.{put-first, put-step, put-all}
+use Rattle.payload.proofs.Progress.{putTo, put-first, put-step, put-all}
 use Rattle.payload.proofs.transfer.put.Statement.{statement}
 use Rattle.payload.proofs.transfer.put.Tie as tie
 

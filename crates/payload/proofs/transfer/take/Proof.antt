@@ -9,10 +9,9 @@ use Rattle.boxcode.specs.Check.{dataSize}
 use Rattle.boxcode.proofs.Check.{checks-fit}
 use Rattle.plan.specs.Bytes.{codeWith}
 use Rattle.payload.specs.Walk.{At}
-use Rattle.payload.specs.Transfer.{takenTo}
 use Rattle.payload.proofs.Size.{cells-most, place-inside}
 use Rattle.payload.proofs.Stand.{at-row, at-below}
-use Rattle.payload.proofs.Progress.{take-first, take-step, take-all}
+use Rattle.payload.proofs.Progress.{takenTo, take-first, take-step, take-all}
 use Rattle.payload.proofs.transfer.take.Statement.{statement}
 use Rattle.payload.proofs.transfer.take.Tie as tie
 

@@ -4,8 +4,7 @@ use Prim.Native.Nat.{_-_, _≤_}
 use native.Mathlib.Omega.{arith}
 use Rattle.layout.specs.Cells.{cellOf}
 use Rattle.plan.specs.Bytes.{codeWith}
-use Rattle.syndrome.specs.Gather.{FirstRows}
-use Rattle.syndrome.proofs.Rows.{rows-first, rows-next, rows-all}
+use Rattle.syndrome.proofs.Rows.{FirstRows, rows-first, rows-next, rows-all}
 use Rattle.syndrome.proofs.gather.sums.Statement.{statement}
 use Rattle.syndrome.proofs.gather.sums.Tie as tie
 

@@ -4,19 +4,12 @@ use mathlib.Core.List.{List}
 use Prim.Native.Nat.{ℕ}
 use native.Mathlib.Omega.{arith}
 use lib.Seq.{length-take-le}
-use Rattle.gf2.specs.Solver.{solved, solverOf}
-use Rattle.gf2.specs.declared.Solver.{Solver}
-use Rattle.gf2.specs.declared.Solution.{Solution}
+use Rattle.gf2.proofs.Answer.{solved-from}
 use Rattle.plan.specs.Bytes.{codeWith}
 use Rattle.writer.proofs.Solved.{combination-makes, never-outside}
 use borrow.Author.Needs.{needs}
 use Rattle.writer.proofs.solving.check_digits.Statement.{statement}
 use Rattle.writer.proofs.solving.check_digits.Tie as tie
-
--- what the solver answers, from the steps that lead to it
-answer : (r : Solution) (s : Solver) (vs ws : List ℕ) (v : ℕ) (t : Solution) → r ≡ solved (s .basis) (s .combos) v → s ≡ solverOf ws → ws ≡ vs → r ≡ t
-    → solved (solverOf vs .basis) (solverOf vs .combos) v ≡ t
-answer r s vs ws v t a b e q = rw (← e, ← b, ← a) q
 
 check-joints-requires : tie.Need-check-joints-requires
 check-joints-requires c κs = search needs
@@ -49,14 +42,14 @@ returns c =
     let w = c .before .before .before .before .before .before .before in
     let a = w .before .before .before .before .before in
     absurd (never-outside (codeWith (a .args .plan .now) (a .args .h)) (a .pre .1 .0) (a .pre .1 .1 .0) (a .args .target) (a .pre .1 .1 .1)
-    (answer _ _ _ _ _ _ (c .before .before .solve .ensures) (w .solver-of .ensures) (w .before .before .before .check-joints .ensures .held) (c .enum-told .given .1)))
+    (solved-from _ _ _ _ _ _ (c .before .before .solve .ensures) (w .solver-of .ensures) (w .before .before .before .check-joints .ensures .held) (c .enum-told .given .1)))
 
 returns-2 : tie.Need-returns-2
 returns-2 c =
     let w = c .before .before .before .before .before .before .before .before in
     let a = w .before .before .before .before .before in
     combination-makes (codeWith (a .args .plan .now) (a .args .h)) (a .pre .1 .0) (a .pre .1 .1 .0) (a .args .target) (a .pre .1 .1 .1) _
-    (answer _ _ _ _ _ _ (c .before .before .before .solve .ensures) (w .solver-of .ensures) (w .before .before .before .check-joints .ensures .held) (c .before .y .given .1))
+    (solved-from _ _ _ _ _ _ (c .before .before .before .solve .ensures) (w .solver-of .ensures) (w .before .before .before .check-joints .ensures .held) (c .before .y .given .1))
 
 pub check-digits-spec : {M : Type 1} → statement M
 check-digits-spec =

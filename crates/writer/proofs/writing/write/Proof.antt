@@ -5,7 +5,7 @@ use Rattle.plan.specs.declared.verdict.Verdict.{Verdict}
 use Rattle.plan.specs.Bytes.{codeOf}
 use Rattle.buffers.specs.Buffers.{writeChecks, Writes}
 use Rattle.buffers.proofs.Passing.{write-zero}
-use Rattle.writer.specs.Write.{outcome, writtenBytes}
+use Rattle.writer.specs.Write.{wrote, writtenBytes}
 use Rattle.writer.proofs.Outcomes.{write-refused, write-done}
 use borrow.Author.Needs.{needs}
 use Rattle.writer.proofs.writing.write.Statement.{statement}
@@ -20,7 +20,7 @@ same-length c = search needs
 returns : tie.Need-returns
 returns c =
     let e = c .before .before .write-checks .ensures in
-    ap (λ (v : Verdict). outcome v (c .before .before .before .before .before .before .before .args .sheet .now)) e
+    ap (λ (v : Verdict). wrote v (c .before .before .before .before .before .before .before .args .sheet .now)) e
     ∙ sym (write-refused _ _ _ (λ z. c .if1 .taken (ap (λ (v : Verdict). v .number) e ∙ z)))
 
 -- what the function was given, where the checks passed
@@ -55,7 +55,7 @@ returns-2 : tie.Need-returns-2
 returns-2 c =
     let t = c .before .before in
     let r = t .before .before in
-    ap₂ outcome (r .before .before .before .write-checks .ensures) (whole t) ∙ sym (write-done _ _ _ (passes (r .before)))
+    ap₂ wrote (r .before .before .before .write-checks .ensures) (whole t) ∙ sym (write-done _ _ _ (passes (r .before)))
 
 pub write-spec : {M : Type 1} → statement M
 write-spec =
