@@ -10,22 +10,23 @@ use layout::compare::larger;
 use layout::compare::smaller;
 use layout::number::u16_at;
 use plan::entry::header_of;
+use plan::header::LENGTH;
 
 // How many bytes are the plan.
 pub fn plan_size(input: &[u8]) -> usize
     ensures { λ r. ⌜ r ≡ planSize (now (input .entry)) ⌝ }
 {
-    if input.len() < 20 {
+    if input.len() < LENGTH {
         return input.len();
     }
-    smaller(input.len(), larger(20, u16_at(input, 18)))
+    smaller(input.len(), larger(LENGTH, u16_at(input, 18)))
 }
 
 // The bytes of data, where the plan is accepted. A plan that is not is refused whatever the data.
 pub fn data_bytes(plan: &[u8]) -> usize
     ensures { λ r. ⌜ DataSize (now (plan .entry)) r ⌝ }
 {
-    if plan.len() < 20 {
+    if plan.len() < LENGTH {
         return 0;
     }
     let h = header_of(plan);
