@@ -24,7 +24,8 @@ use Rattle.boxcode.specs.Code.{Code, Formed}
 use Rattle.boxcode.specs.Condition.{Conditions, rowMember, columnMember, columnDifference, stripEntry}
 use Rattle.boxcode.specs.Syndrome.{Cells, rowSyndrome, columnSyndrome, SameCells}
 use Rattle.boxcode.specs.Burst.{Inside, Burst}
-use Rattle.finite.proofs.Truth.{Truth, is-true, is-false, true-or-false, clash, not-true, same-truth, xor-equal, xor-cases, or-left, or-right, and-left, and-both}
+use Rattle.finite.proofs.Truth.{Truth, is-true, is-false, true-or-false, clash, not-true, same-truth, xor-equal, xor-cases, or-left}
+use Rattle.finite.proofs.Truth.{or-right, and-left, and-both}
 use Rattle.finite.proofs.Digits.{place-to, place-is}
 use Rattle.boxcode.proofs.Image.{unpicked}
 use Rattle.boxcode.proofs.Pattern.{pattern-window, burst-row, patternOf, memberCell, SamePattern, same-at, column-members, cell-home, cell-member}

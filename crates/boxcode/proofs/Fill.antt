@@ -17,7 +17,8 @@ use Rattle.boxcode.specs.Code.{Code, Formed, cellNumber}
 use Rattle.boxcode.specs.Syndrome.{Cells, SameCells}
 use Rattle.boxcode.specs.Check.{Bits, checkNumber, checkAt, checkIndex, dataOrder, dataSize, rank, dataCell, fill, dataOf}
 use Rattle.finite.proofs.Truth.{Truth, is-true, is-false, true-or-false}
-use Rattle.boxcode.proofs.Check.{check-row, check-column, number-row, number-column, number-on, number-cell, check-here, check-found, check-index, data-below, data-free, data-rank, rank-below, rank-data}
+use Rattle.boxcode.proofs.Check.{check-row, check-column, number-row, number-column, number-on, number-cell, check-here, check-found}
+use Rattle.boxcode.proofs.Check.{check-index, data-below, data-free, data-rank, rank-below, rank-data}
 
 -- what a set of cells has in check cell k
 abbrev pub checkCell : Code → Cells → ℕ → Bool

@@ -46,7 +46,8 @@ module _ (c : Code) (F : Formed c) where
   laid-pattern p a k = laid-at p a (k / c .b2) (k % c .b2) (mod-lt k (F .b2-pos)) ∙ ap p (div-add-mod' k (c .b2))
 
   -- a burst is its pattern, laid
-  pub laid-back : (e : Cells) (B : Burst c e) (p : ℕ → Bool) → ((k : ℕ) → k < c .n1 * c .b2 → patternOf c (B .left) e k ≡ p k) → SameCells c (laid c p (B .left)) e
+  pub laid-back : (e : Cells) (B : Burst c e) (p : ℕ → Bool) → ((k : ℕ) → k < c .n1 * c .b2 → patternOf c (B .left) e k ≡ p k)
+      → SameCells c (laid c p (B .left)) e
   unfolding laid
   laid-back e B p same i j li lj =
       same-truth (within (B .left) (c .b2) j && p (i * c .b2 + j % c .b2)) (e i j)
@@ -73,7 +74,8 @@ module _ (c : Code) (F : Formed c) where
       (λ t.
       let f = found c F v h t in
       let B = f .burst in
-      none (B .top) (patternOf c (B .left) (burstFor c v h)) (B .rows-on) (pattern-window c F (burstFor c v h) B) (sym (burst-row c F (burstFor c v h) B) ∙ f .row))
+      none (B .top) (patternOf c (B .left) (burstFor c v h)) (B .rows-on) (pattern-window c F (burstFor c v h) B)
+      (sym (burst-row c F (burstFor c v h) B) ∙ f .row))
 
   pub laid-inside : (top a : ℕ) (p : ℕ → Bool) → InWindow c top p → Inside top a (c .b1) (c .b2) (laid c p a)
   unfolding laid

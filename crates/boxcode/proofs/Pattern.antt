@@ -134,7 +134,8 @@ module _ (c : Code) (F : Formed c) where
     pub cell-member : (i j : ℕ) → e i j ≡ true → memberCell c top left e (j % c .b2 * c .b1 + i % c .b1) ≡ true
     unfolding memberCell
     cell-member i j t =
-        ap₂ (λ (y z : ℕ). e (place (c .b1) top y) (place (c .b2) left z)) (digits-mod (j % c .b2) (mod-lt i (F .b1-pos))) (digits-div (j % c .b2) (mod-lt i (F .b1-pos)))
+        ap₂ (λ (y z : ℕ). e (place (c .b1) top y) (place (c .b2) left z)) (digits-mod (j % c .b2) (mod-lt i (F .b1-pos)))
+        (digits-div (j % c .b2) (mod-lt i (F .b1-pos)))
         ∙ ap₂ e (place-is (c .b1) top (F .b1-pos) i (on .row-from i j t) (on .row-to i j t)) (cell-home i j t) ∙ t
 
   -- the pattern of a burst is in its window, and has its V sum

@@ -21,7 +21,8 @@ use Rattle.boxcode.specs.Syndrome.{Cells, SameCells}
 use Rattle.boxcode.specs.Burst.{Inside, Burst}
 use Rattle.boxcode.specs.Reader.{Report, cellCount, rowTouched, columnTouched, reportOf, noReport, LiesIn}
 use Rattle.finite.proofs.Truth.{Truth, is-true, is-false, true-or-false, clash, not-true}
-use Rattle.finite.proofs.Search.{any-found, any-here, any-none, none-any, any-equal, first-is, first-none, first-equal, past-le, past-above, past-last, past-none, past-equal}
+use Rattle.finite.proofs.Search.{any-found, any-here, any-none, none-any, any-equal, first-is, first-none, first-equal, past-le, past-above}
+use Rattle.finite.proofs.Search.{past-last, past-none, past-equal}
 use Rattle.finite.proofs.Count.{count-equal, count-none, count-rise, count-split, count-run}
 use Rattle.boxcode.proofs.Burst.{OnSheet}
 
@@ -35,7 +36,8 @@ cells-equal (suc n) m e e' h =
 
 pub cells-flat : (n m : ℕ) (e : Cells) → cellCount n m e ≡ countBelow (n * m) (λ t. e (t / m) (t % m))
 unfolding cellCount
-cells-flat zero m e = sym (ap (λ (x : ℕ). countBelow x (λ t. e (t / m) (t % m))) (zero-mul m) ∙ count-none 0 (λ t. e (t / m) (t % m)) (λ k l. absurd (omega arith)))
+cells-flat zero m e =
+    sym (ap (λ (x : ℕ). countBelow x (λ t. e (t / m) (t % m))) (zero-mul m) ∙ count-none 0 (λ t. e (t / m) (t % m)) (λ k l. absurd (omega arith)))
 cells-flat (suc n) m e =
     ap₂ _+_ (cells-flat n m e) (count-equal m (e n) (λ j. e ((n * m + j) / m) ((n * m + j) % m)) (λ j l. sym (ap₂ e (digits-div n l) (digits-mod n l))))
     ∙ sym (ap (λ (x : ℕ). countBelow x (λ t. e (t / m) (t % m))) (suc-mul n m) ∙ count-split (n * m) m (λ t. e (t / m) (t % m)))
@@ -176,13 +178,12 @@ module _ (c : Code) where
 
   pub report-cells : (e e' : Cells) → SameCells c e e' → reportOf c e ≡ reportOf c e'
   unfolding reportOf
-  report-cells e e' h = λ i. record {
-    cells = cells-equal (c .n1) (c .n2) e e' h i;
-    top = first-equal (c .n1) (rowTouched c e) (rowTouched c e') (rows-equal e e' h) i;
-    left = first-equal (c .n2) (columnTouched c e) (columnTouched c e') (columns-equal e e' h) i;
-    height = past-equal (c .n1) (rowTouched c e) (rowTouched c e') (rows-equal e e' h) i - first-equal (c .n1) (rowTouched c e) (rowTouched c e') (rows-equal e e' h) i;
-    width = past-equal (c .n2) (columnTouched c e) (columnTouched c e') (columns-equal e e' h) i - first-equal (c .n2) (columnTouched c e) (columnTouched c e') (columns-equal e e' h) i;
-  }
+  report-cells e e' h =
+      let fr = first-equal (c .n1) (rowTouched c e) (rowTouched c e') (rows-equal e e' h) in
+      let pr = past-equal (c .n1) (rowTouched c e) (rowTouched c e') (rows-equal e e' h) in
+      let fc = first-equal (c .n2) (columnTouched c e) (columnTouched c e') (columns-equal e e' h) in
+      let pc = past-equal (c .n2) (columnTouched c e) (columnTouched c e') (columns-equal e e' h) in
+      λ i. record { cells = cells-equal (c .n1) (c .n2) e e' h i; top = fr i; left = fc i; height = pr i - fr i; width = pc i - fc i }
 
   pub report-inside : (e : Cells) → OnSheet c e → Inside (reportOf c e .top) (reportOf c e .left) (reportOf c e .height) (reportOf c e .width) e
   unfolding reportOf
@@ -247,7 +248,8 @@ module _ (c : Code) where
       sixteen : c .b1 * c .b2 ≤ 16
       sixteen = mul-le-mul (F .b1-most) (F .b2-most)
 
-      r : (firstOf (c .n1) (rowTouched c e) < c .n1) × (size (c .n1) (rowTouched c e) ≤ c .b1) × (firstOf (c .n1) (rowTouched c e) + size (c .n1) (rowTouched c e) ≤ c .n1)
+      r : (firstOf (c .n1) (rowTouched c e) < c .n1) × (size (c .n1) (rowTouched c e) ≤ c .b1)
+          × (firstOf (c .n1) (rowTouched c e) + size (c .n1) (rowTouched c e) ≤ c .n1)
       r =
           run-bounds (c .n1) (rowTouched c e) (B .top) (c .b1) (le-trans (F .b1-pos) (F .n1-least))
           (from-row (B .top) (B .left) (c .b1) (c .b2) e (B .inside)) (to-row (B .top) (B .left) (c .b1) (c .b2) e (B .inside))

@@ -112,7 +112,8 @@ unfolding weightSum
 weight-joined k n m v h s b =
     sum-equal n (λ i. xorSum m (λ j. pick (s i j) (joined k (v i j) (h i j)))) (λ i. joined k (row v i) (row h i))
     (λ i l.
-    sum-equal m (λ j. pick (s i j) (joined k (v i j) (h i j))) (λ j. joined k (pick (s i j) (v i j)) (pick (s i j) (h i j))) (λ j lj. pick-joined k (s i j) (v i j) (h i j))
+    sum-equal m (λ j. pick (s i j) (joined k (v i j) (h i j))) (λ j. joined k (pick (s i j) (v i j)) (pick (s i j) (h i j)))
+    (λ j lj. pick-joined k (s i j) (v i j) (h i j))
     ∙ sum-joined k m (λ j. pick (s i j) (v i j)) (λ j. pick (s i j) (h i j)) (λ j lj. pick-below k (s i j) (v i j) (b i j l lj)))
     ∙ sum-joined k n (row v) (row h) (λ i l. sum-below k m (λ j. pick (s i j) (v i j)) (λ j lj. pick-below k (s i j) (v i j) (b i j l lj)))
   where

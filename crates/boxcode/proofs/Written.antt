@@ -64,7 +64,8 @@ module _ (c : Code) (F : Formed c) where
   unfolding checkJoint
   checks-sum e none =
       weight-flat (c .n1) (c .n2) (jointWeight c) e
-      ∙ sum-image (c .rv + c .rh) (c .n1 * c .n2) (checkNumber c) (check-listed c F) (λ t. at (t / c .n2) (t % c .n2)) (λ k. at (c .checkRow k) (c .checkColumn k))
+      ∙ sum-image (c .rv + c .rh) (c .n1 * c .n2) (checkNumber c) (check-listed c F) (λ t. at (t / c .n2) (t % c .n2))
+      (λ k. at (c .checkRow k) (c .checkColumn k))
       (λ k l. ap₂ at (check-row c F k l) (check-column c F k l))
       (λ t l miss. unpicked (e (t / c .n2) (t % c .n2)) (jointWeight c (t / c .n2) (t % c .n2)) (off t l miss))
     where
@@ -143,7 +144,8 @@ module _ (c : Code) (F : Formed c) where
 
       way : (m : ℕ → Bool) × (chosenSum r m (checkJoint c) ≡ jointSum c (fill c x 0))
       way =
-          spans-all r (checkJoint c) few (check-below c F) (K .checks) (jointSum c (fill c x 0)) (weight-below (c .n1) (c .n2) (jointWeight c) r (fill c x 0) (joint-below c F))
+          spans-all r (checkJoint c) few (check-below c F) (K .checks) (jointSum c (fill c x 0))
+          (weight-below (c .n1) (c .n2) (jointWeight c) r (fill c x 0) (joint-below c F))
 
   written-belongs : Conditions c → (x : Bits) → Belongs c (written c x)
   unfolding written

@@ -11,7 +11,8 @@
 use mathlib.Core.Path.{_≡_, refl, sym, ap, ap₂, _∙_}
 use mathlib.Core.Bool.{Bool, true, false, cond}
 use Prim.Native.Nat.{ℕ, zero, suc, _+_, _-_, _*_, _/_, _%_, _^_, _≤_, _<_}
-use native.Mathlib.Nat.{mod-lt, mod-eq-of-lt, add-mod-mod, add-mul-mod-self-right, div-add-mod', mul-le-mul-right, suc-mul, pow-succ', div-div-eq-div-mul, zero-lt-suc, zero-div, div-one}
+use native.Mathlib.Nat.{mod-lt, mod-eq-of-lt, add-mod-mod, add-mul-mod-self-right, div-add-mod', mul-le-mul-right, suc-mul, pow-succ'}
+use native.Mathlib.Nat.{div-div-eq-div-mul, zero-lt-suc, zero-div, div-one}
 use native.Mathlib.Decide.{ℕ-discrete, decLt}
 use native.Mathlib.Omega.{arith}
 use borrow.Author.Tests.{eq-eqb, ne-eqb}

@@ -211,7 +211,8 @@ least-last (suc n) p =
     go true ih = rw (eqb·zero-suc n)
     go false ih = ih ∙ rw (eqb·suc-suc (least n (λ k. p (suc k))) n) (split (eqb (least n (λ k. p (suc k))) n) (p (suc n)))
       where
-        split : (s t : Bool) → suc (cond s (cond t n (suc n)) (least n (λ k. p (suc k)))) ≡ cond s (cond t (suc n) (suc (suc n))) (suc (least n (λ k. p (suc k))))
+        split : (s t : Bool) → suc (cond s (cond t n (suc n)) (least n (λ k. p (suc k))))
+            ≡ cond s (cond t (suc n) (suc (suc n))) (suc (least n (λ k. p (suc k))))
         split true true = refl
         split true false = refl
         split false t = refl

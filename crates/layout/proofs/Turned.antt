@@ -45,7 +45,8 @@ module _ (n1 n2 : ℕ) (s : List ℕ) (f : RightForm n1 n2 s) (i j : ℕ) (li : 
       go : (k : ℕ) → k < sheetBytes n1 n2 → Dec (k ≡ byteOf n2 i j) → getD (set s (byteOf n2 i j) x) k 0 < 2 ^ usedBits n2 k
       go k l (yes e) =
           rw (e, getD-set-same s (byteOf n2 i j) x 0 inside)
-          (xor-below (usedBits n2 (byteOf n2 i j)) (getD s (byteOf n2 i j) 0) (2 ^ (j % 8)) (f .used (byteOf n2 i j) (byte-inside n2 j lj n1 i li)) (pow-lt (byte-digit n2 j lj i)))
+          (xor-below (usedBits n2 (byteOf n2 i j)) (getD s (byteOf n2 i j) 0) (2 ^ (j % 8))
+          (f .used (byteOf n2 i j) (byte-inside n2 j lj n1 i li)) (pow-lt (byte-digit n2 j lj i)))
       go k l (no e) = rw (getD-set-other s (byteOf n2 i j) k x 0 e) (f .used k l)
 
   pub turned-cell : (a b : ℕ) → a < n1 → b < n2 → cellOf n2 (turned n2 s i j) a b ≡ xor (cellOf n2 s a b) (eqb i a && eqb j b)
@@ -73,7 +74,8 @@ module _ (n1 n2 : ℕ) (s : List ℕ) (f : RightForm n1 n2 s) (i j : ℕ) (li : 
           away (yes r) = rw (eq-eqb i a r) (ne-eqb j b (λ w. h (ap₂ (byteOf n2) (sym r) (sym w))))
           away (no r) = rw (ne-eqb i a r)
 
-      go : Dec (byteOf n2 a b ≡ byteOf n2 i j) → bit (getD (set s (byteOf n2 i j) x) (byteOf n2 a b) 0) (b % 8) ≡ xor (bit (getD s (byteOf n2 a b) 0) (b % 8)) (eqb i a && eqb j b)
+      go : Dec (byteOf n2 a b ≡ byteOf n2 i j) → bit (getD (set s (byteOf n2 i j) x) (byteOf n2 a b) 0) (b % 8)
+          ≡ xor (bit (getD s (byteOf n2 a b) 0) (b % 8)) (eqb i a && eqb j b)
       go (yes e) =
           ap (λ (k : ℕ). bit (getD (set s (byteOf n2 i j) x) k 0) (b % 8)) e
           ∙ ap (λ (y : ℕ). bit y (b % 8)) (getD-set-same s (byteOf n2 i j) x 0 inside)

@@ -41,7 +41,8 @@ box-sum n m top left height width rows columns w e on =
     run-sum n top height (λ i. xorSum m (weighed w e i)) rows
     (λ i miss. sum-zero m (weighed w e i) (λ j l. off i j (λ t. miss (on .row-from i j t) (on .row-to i j t))))
     ∙ sum-equal height (λ r. xorSum m (weighed w e (top + r))) (λ r. xorSum width (λ d. weighed w e (top + r) (left + d)))
-    (λ r l. run-sum m left width (weighed w e (top + r)) columns (λ j miss. off (top + r) j (λ t. miss (on .column-from (top + r) j t) (on .column-to (top + r) j t))))
+    (λ r l. run-sum m left width (weighed w e (top + r)) columns (λ j miss.
+    off (top + r) j (λ t. miss (on .column-from (top + r) j t) (on .column-to (top + r) j t))))
   where
     off : (i j : ℕ) → (e i j ≡ true → ⊥) → weighed w e i j ≡ 0
     off i j h = unpicked (e i j) (w i j) (not-true (e i j) h)
@@ -51,7 +52,8 @@ unfolding laidSum laidLine laidRow laidCell
 laid-entries b1 b2 n i a x f g pos on same =
     sum-equal b1 (laidLine b1 b2 f i a x) (laidLine b1 b2 g i a x)
     (λ r lr. sum-equal b2 (laidCell b1 b2 f ((i + r) % b1) (r * b2) a x) (laidCell b1 b2 g ((i + r) % b1) (r * b2) a x)
-    (λ d ld. ap (pick (bit x (r * b2 + (a + d) % b2))) (same ((a + d) * b1 + (i + r) % b1) (digits-lt (let l : a + d < n = omega arith in l) (mod-lt (i + r) pos)))))
+    (λ d ld. ap (pick (bit x (r * b2 + (a + d) % b2))) (same ((a + d) * b1 + (i + r) % b1)
+    (digits-lt (let l : a + d < n = omega arith in l) (mod-lt (i + r) pos)))))
 
 module _ (c : Code) (F : Formed c) (i x : ℕ) (rows : i + c .b1 ≤ c .n1) where
   pub laid-cell : (a r d : ℕ) → r < c .b1 → d < c .b2 → laidCells c i x a (i + r) (a + d) ≡ bit x (r * c .b2 + (a + d) % c .b2)
@@ -72,8 +74,10 @@ module _ (c : Code) (F : Formed c) (i x : ℕ) (rows : i + c .b1 ≤ c .n1) wher
     unfolding columnSyndrome columnWeight laidSum laidLine laidRow laidCell
     laid-sum columns =
         box-sum (c .n1) (c .n2) i a (c .b1) (c .b2) rows columns (columnWeight c) (laidCells c i x a) cells-inside
-        ∙ sum-equal (c .b1) (λ r. xorSum (c .b2) (λ d. weighed (columnWeight c) (laidCells c i x a) (i + r) (a + d))) (laidLine (c .b1) (c .b2) (c .columnEntry) i a x)
-        (λ r lr. sum-equal (c .b2) (λ d. weighed (columnWeight c) (laidCells c i x a) (i + r) (a + d)) (laidCell (c .b1) (c .b2) (c .columnEntry) ((i + r) % c .b1) (r * c .b2) a x)
+        ∙ sum-equal (c .b1) (λ r. xorSum (c .b2) (λ d. weighed (columnWeight c) (laidCells c i x a) (i + r) (a + d)))
+        (laidLine (c .b1) (c .b2) (c .columnEntry) i a x)
+        (λ r lr. sum-equal (c .b2) (λ d. weighed (columnWeight c) (laidCells c i x a) (i + r) (a + d))
+        (laidCell (c .b1) (c .b2) (c .columnEntry) ((i + r) % c .b1) (r * c .b2) a x)
         (λ d ld. ap (λ (b : Bool). pick b (c .columnEntry ((a + d) * c .b1 + (i + r) % c .b1))) (laid-cell a r d lr ld)))
 
     number-is : boxPattern (c .b1) (c .b2) a x ≡ boxNumber i a (c .b1) (c .b2) (laidCells c i x a)

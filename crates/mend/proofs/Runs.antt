@@ -73,7 +73,13 @@ module _ (n a m : ℕ) (p q : ℕ → Bool) (R : Run n a m p q) where
       let l : firstOf m q < m = f .below in
       let o = R .on in
       sym (first-found n p (a + firstOf m q) (omega arith)
-      (λ j lj. not-true (p j) (λ u. let r = in-run j u in let e : j ≡ a + (j - a) = r .2 in let g : firstOf m q ≤ j - a = f .least (j - a) (r .1) in omega arith))
+      (λ j lj.
+      not-true (p j)
+      (λ u.
+      let r = in-run j u in
+      let e : j ≡ a + (j - a) = r .2 in
+      let g : firstOf m q ≤ j - a = f .least (j - a) (r .1) in
+      omega arith))
       (R .same (firstOf m q) l ∙ f .holds))
 
   pub run-past : anyBelow m q ≡ true → pastOf n p ≡ a + pastOf m q

@@ -141,7 +141,8 @@ module _ (c : Code) (F : Formed c) (r : Cursor) (A : At c r) (l : r .cell < c .n
           bytes-equal 1 (dataSize c) (takenTo c s (r .cell)) (takenTo c s (r .cell + 1))
           (λ i d li ld. ap (λ (t : ℕ). ltb d t && dataOf c s d) (sym (rank-kept c F r A l e)))
       go false e =
-          turned-if-bytes 1 (dataSize c) (s (r .row) (r .column)) (takenTo c s (r .cell)) (takenTo c s (r .cell + 1)) 0 (r .place) (λ b. omega arith) (λ b. at-below c F r A l e)
+          turned-if-bytes 1 (dataSize c) (s (r .row) (r .column)) (takenTo c s (r .cell)) (takenTo c s (r .cell + 1)) 0 (r .place)
+          (λ b. omega arith) (λ b. at-below c F r A l e)
           (λ i d li ld.
           grow d (rank c (r .cell)) (s (r .row) (r .column)) (dataOf c s d) (eqb 0 i && eqb (r .place) d)
           (λ q. (ap₂ _&&_ (eq-eqb 0 i (omega arith)) (eq-eqb (r .place) d (A .place-is ∙ sym q)), ap (dataOf c s) q ∙ at-bit c F r A l s e))

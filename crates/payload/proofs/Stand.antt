@@ -125,7 +125,8 @@ module _ (c : Code) (F : Formed c) where
 
     pub at-below : atCheck r ≡ false → r .place < dataSize c
     at-below e =
-        let b : rank c (dataOrder c (dataOrder c (r .cell))) < dataSize c = rank-below c F (dataOrder c (r .cell)) (order-below c (r .cell) l) (sym at-check ∙ e) in
+        let b : rank c (dataOrder c (dataOrder c (r .cell))) < dataSize c =
+        rank-below c F (dataOrder c (r .cell)) (order-below c (r .cell) l) (sym at-check ∙ e) in
         let q : rank c (dataOrder c (dataOrder c (r .cell))) ≡ rank c (r .cell) = ap (rank c) back in
         let p = A .place-is in
         omega arith

@@ -1,15 +1,15 @@
 // Data into the cells of a sheet, and out of them.
 ghost use mathlib.Core.Path.{_≡_};
 ghost use mathlib.Core.Bool.{false};
-ghost use Prim.Native.Nat.{ℕ, _≤_, _<_};
+ghost use Prim.Native.Nat.{_≤_, _<_};
 ghost use lib.ListN.{length};
-ghost use Rattle.layout.specs.Cells.{rowBytes, sheetBytes, byteOf, cellOf, bytesOf, turnedIf};
+ghost use Rattle.layout.specs.Cells.{rowBytes, sheetBytes, byteOf, cellOf, turnedIf};
 ghost use Rattle.boxcode.specs.Code.{Formed};
-ghost use Rattle.boxcode.specs.Check.{dataSize, fill, dataOf};
+ghost use Rattle.boxcode.specs.Check.{dataSize};
 ghost use Rattle.plan.specs.Header.{Framed};
 ghost use Rattle.plan.specs.Bytes.{codeWith};
 ghost use Rattle.payload.specs.Walk.{atCheck};
-ghost use Rattle.payload.specs.Transfer.{putBit, takeBit};
+ghost use Rattle.payload.specs.Transfer.{filledBytes, packedData, putBit, takeBit};
 use crate::cursor::Cursor;
 use crate::cursor::start;
 use crate::cursor::step;
@@ -48,7 +48,7 @@ pub fn put(plan: &[u8], h: Header, bits: &[u8], sheet: &mut [u8])
     requires { ⌜ Formed (codeWith (now plan) h) ⌝ }
     requires { ⌜ length (now bits) ≡ rowBytes (dataSize (codeWith (now plan) h)) ⌝ }
     requires { ⌜ length (now sheet) ≡ sheetBytes (h .n1) (h .n2) ⌝ }
-    ensures { λ _. ⌜ now (sheet .exit) ≡ bytesOf (h .n1) (h .n2) (fill (codeWith (now (plan .entry)) h) (λ (d : ℕ). cellOf (dataSize (codeWith (now (plan .entry)) h)) (now (bits .entry)) 0 d) 0) ⌝ }
+    ensures { λ _. ⌜ now (sheet .exit) ≡ filledBytes (codeWith (now (plan .entry)) h) (now (bits .entry)) ⌝ }
 {
     let cells = h.n1 * h.n2;
     let k = cells - (h.rv + h.rh);
@@ -69,7 +69,7 @@ pub fn take(plan: &[u8], h: Header, sheet: &[u8], bits: &mut [u8])
     requires { ⌜ Formed (codeWith (now plan) h) ⌝ }
     requires { ⌜ length (now bits) ≡ rowBytes (dataSize (codeWith (now plan) h)) ⌝ }
     requires { ⌜ length (now sheet) ≡ sheetBytes (h .n1) (h .n2) ⌝ }
-    ensures { λ _. ⌜ now (bits .exit) ≡ bytesOf 1 (dataSize (codeWith (now (plan .entry)) h)) (λ (i d : ℕ). dataOf (codeWith (now (plan .entry)) h) (cellOf (h .n2) (now (sheet .entry))) d) ⌝ }
+    ensures { λ _. ⌜ now (bits .exit) ≡ packedData (codeWith (now (plan .entry)) h) (cellOf (h .n2) (now (sheet .entry))) ⌝ }
 {
     let cells = h.n1 * h.n2;
     let k = cells - (h.rv + h.rh);

@@ -25,7 +25,8 @@ use Rattle.plan.specs.declared.verdict.Verdict.{Verdict}
 use Rattle.plan.specs.Verdict.{accepted, refusal, verdictIf, _orElse_}
 use Rattle.plan.specs.Header.{headerLength, headerOf, Framed, columnsStart, checksStart, planLength}
 use Rattle.plan.specs.Bytes.{codeOf}
-use Rattle.plan.specs.Form.{badBurst, badSheet, badWidths, badOffsets, fieldsVerdict, headerVerdict, firstLarge, entriesVerdict, rises, badPair, listVerdict, formVerdict, verdictAt}
+use Rattle.plan.specs.Form.{badBurst, badSheet, badWidths, badOffsets, fieldsVerdict, headerVerdict, firstLarge, entriesVerdict}
+use Rattle.plan.specs.Form.{rises, badPair, listVerdict, formVerdict, verdictAt}
 use Rattle.plan.proofs.Framing.{framed}
 use Rattle.plan.proofs.Sequence.{else-zero, else-second, if-zero}
 
@@ -76,7 +77,8 @@ module _ (c : Code) where
       → ((k : ℕ) → k < c .n1 * c .b2 → c .rowEntry k < 2 ^ c .rv) × ((k : ℕ) → k < c .n2 * c .b1 → c .columnEntry k < 2 ^ c .rh)
   unfolding entriesVerdict firstLarge
   entries-below e =
-      let z = else-zero (verdictAt (c .n1 * c .b2) (firstLarge (c .n1 * c .b2) (c .rv) (c .rowEntry)) (refusal 6 0 (firstLarge (c .n1 * c .b2) (c .rv) (c .rowEntry)))) _ e in (
+      let z = else-zero (verdictAt (c .n1 * c .b2) (firstLarge (c .n1 * c .b2) (c .rv) (c .rowEntry))
+      (refusal 6 0 (firstLarge (c .n1 * c .b2) (c .rv) (c .rowEntry)))) _ e in (
         λ k l. leb-false _ _ (at-zero (c .n1 * c .b2) (λ k. leb (2 ^ c .rv) (c .rowEntry k)) 5 0 _ (z .0) k l),
         λ k l. leb-false _ _ (at-zero (c .n2 * c .b1) (λ k. leb (2 ^ c .rh) (c .columnEntry k)) 5 1 _ (z .1) k l),
       )

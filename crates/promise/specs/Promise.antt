@@ -33,12 +33,13 @@ use lib.ListN.{length}
 use Rattle.layout.specs.Cells.{rowBytes, sheetBytes, cellOf, RightForm, bytesOf}
 use Rattle.boxcode.specs.Syndrome.{Cells, Belongs, flip}
 use Rattle.boxcode.specs.Burst.{Inside, Burst}
-use Rattle.boxcode.specs.Check.{dataSize, dataOf}
+use Rattle.boxcode.specs.Check.{dataSize}
 use Rattle.boxcode.specs.Reader.{Report, cellCount, reportOf, noReport, LiesIn}
 use Rattle.plan.specs.Verdict.{accepted, refusal}
 use Rattle.plan.specs.Bytes.{codeOf}
 use Rattle.accept.specs.Verdict.{planVerdict, Accepted}
 use Rattle.mend.specs.Report.{reportAs}
+use Rattle.payload.specs.Transfer.{packedData}
 use Rattle.writer.specs.Write.{writtenBytes, write, wrote}
 use Rattle.reader.specs.Read.{Outcome, refused, readOutcome}
 
@@ -67,7 +68,7 @@ abbrev pub BelongsTo : List ℕ → List ℕ → Type 0
 BelongsTo plan sheet = Belongs (codeOf plan) (cellsOf plan sheet)
 
 unfoldable pub dataIn : List ℕ → List ℕ → List ℕ
-dataIn plan sheet = bytesOf 1 (dataSize (codeOf plan)) (λ i d. dataOf (codeOf plan) (cellsOf plan sheet) d)
+dataIn plan sheet = packedData (codeOf plan) (cellsOf plan sheet)
 
 abbrev pub BurstOn : List ℕ → Cells → Type 0
 BurstOn plan e = Burst (codeOf plan) e

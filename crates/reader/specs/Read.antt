@@ -18,13 +18,13 @@ use mathlib.Core.List.{List}
 use lib.Dec.{eqb}
 use Rattle.layout.specs.Cells.{cellOf, bytesOf}
 use Rattle.boxcode.specs.Code.{Code}
-use Rattle.boxcode.specs.Check.{dataSize, dataOf}
 use Rattle.boxcode.specs.Syndrome.{rowSyndrome, columnSyndrome}
 use Rattle.boxcode.specs.Reader.{mended, noReport}
 use Rattle.plan.specs.declared.verdict.Verdict.{Verdict}
 use Rattle.plan.specs.Verdict.{accepted, _orElse_}
 use Rattle.plan.specs.Bytes.{codeOf}
 use Rattle.buffers.specs.Buffers.{readChecks}
+use Rattle.payload.specs.Transfer.{packedData}
 use Rattle.mend.specs.declared.report.Report.{Report}
 use Rattle.mend.specs.Report.{reportAs}
 use Rattle.mend.specs.declared.found.Found.{Found}
@@ -40,9 +40,8 @@ readVerdict plan sheet bits = readChecks plan sheet bits orElse foundVerdict (bu
 unfoldable pub sheetRead : Code → List ℕ → List ℕ
 sheetRead c sheet = bytesOf (c .n1) (c .n2) (mended c (cellOf (c .n2) sheet))
 
--- k bits of data are stored as one row of k cells
 unfoldable pub bitsRead : Code → List ℕ → List ℕ
-bitsRead c sheet = bytesOf 1 (dataSize c) (λ i d. dataOf c (mended c (cellOf (c .n2) sheet)) d)
+bitsRead c sheet = packedData c (mended c (cellOf (c .n2) sheet))
 
 unfoldable pub reportRead : Code → List ℕ → Report
 reportRead c sheet = foundReport c (burstIn c sheet)

@@ -60,7 +60,8 @@ line-next n2 p f g row column b x r L l cells two = record {
   column-is = added g column (r .column) (L .column-is) (two .column);
 }
   where
-    added : (w : ℕ → ℕ) (a v : ℕ) → a ≡ chosenSum (min (8 * b) n2) p w → v ≡ byteSum w x (8 * b) (min 8 (n2 - 8 * b)) → bitXor a v ≡ chosenSum (min (8 * (b + 1)) n2) p w
+    added : (w : ℕ → ℕ) (a v : ℕ) → a ≡ chosenSum (min (8 * b) n2) p w → v ≡ byteSum w x (8 * b) (min 8 (n2 - 8 * b))
+        → bitXor a v ≡ chosenSum (min (8 * (b + 1)) n2) p w
     added w a v ea ev =
         let before : min (8 * b) n2 ≡ 8 * b = omega arith in
         let after : 8 * b + min 8 (n2 - 8 * b) ≡ min (8 * (b + 1)) n2 = omega arith in

@@ -146,7 +146,8 @@ walk-next x j b1 b2 q rows columns rest place k row column t place' W e = record
   place-is = e ∙ ap (λ (y : ℕ). (y + 1) % b2) (W .place-is) ∙ place-next j t b2;
   k-is = ap (λ (y : ℕ). y + b1) (W .k-is) ∙ index-next j t b1 q;
   row-is = added rows place ((j + t) % b2) row (byteSum (rowsAt b2 rows) x j t) (W .place-is) (W .row-is) ∙ sym (byte-next (rowsAt b2 rows) x j t);
-  column-is = added columns k ((j + t) * b1 + q) column (byteSum (columnsAt b1 q columns) x j t) (W .k-is) (W .column-is) ∙ sym (byte-next (columnsAt b1 q columns) x j t);
+  column-is = added columns k ((j + t) * b1 + q) column (byteSum (columnsAt b1 q columns) x j t) (W .k-is) (W .column-is)
+      ∙ sym (byte-next (columnsAt b1 q columns) x j t);
 }
   where
     added : (l : List ℕ) (k k' a a' : ℕ) → k ≡ k' → a ≡ a' → bitXor a (getD l k 0 * (rest % 2)) ≡ a' ⊕ (getD l k' 0 * (x / 2 ^ t % 2))

@@ -72,7 +72,8 @@ module _ {M : Type 1} (𝓤 : URA M) (H : Heap 𝓤) (A : Atoms 𝓤) (W : Given
   Exit κ q s g = walkOf 𝓤 H A (onSlice R) (stayed R) c .post (((κ, tt), (q, tt), tt, (s, tt), (value s ∷ [], tt)), g)
 
   pub slice-meets : (code : Fn) (𝓣 : Tables 𝓤 H)
-      → ((κ : Lft) (q : Share) (s : RefT (List ℕ)) (g : c (κ, tt) (s, tt) .ghost) → Holds (hasTy (sliceTy (tyRef (named 0) imm (tyInt w8))) (value s)) × WT (value s)
+      → ((κ : Lft) (q : Share) (s : RefT (List ℕ)) (g : c (κ, tt) (s, tt) .ghost)
+      → Holds (hasTy (sliceTy (tyRef (named 0) imm (tyInt w8))) (value s)) × WT (value s)
       → ent 𝓤 (Entry 𝓤 H A R κ q s (c (κ, tt) (s, tt) .requires g)) (WpFn 𝓤 H (𝓣 .C) (𝓣 .Λ) code (value s ∷ []) (Exit κ q s g)))
       → Triple 𝓤 (WpFn 𝓤 H (𝓣 .C) (𝓣 .Λ) code) (Called 𝓤 H A (onSlice R) c)
   slice-meets code 𝓣 walk =

@@ -80,7 +80,8 @@ pub record Same {M : Type 1} (𝓤 : URA M) (R : Result) (c : Clauses 𝓤 (onPl
   pub ghost : (κs : Lfts 1) (s : RefT (List ℕ)) (h : Header) (k : ℕ) → c κs (here R κs s h k) .ghost → c′ κs (there R κs s h k) .ghost
   pub asks : (κs : Lfts 1) (s : RefT (List ℕ)) (h : Header) (k : ℕ) (g : c κs (here R κs s h k) .ghost)
       → ent 𝓤 (c κs (here R κs s h k) .requires g) (c′ κs (there R κs s h k) .requires (ghost κs s h k g))
-  pub tells : (κs : Lfts 1) (s : RefT (List ℕ)) (h : Header) (k : ℕ) (g : c κs (here R κs s h k) .ghost) (r : R .row .Denot) (e : AtExit (onPlain R) κs) (e′ : AtExit (onView R) κs)
+  pub tells : (κs : Lfts 1) (s : RefT (List ℕ)) (h : Header) (k : ℕ) (g : c κs (here R κs s h k) .ghost) (r : R .row .Denot)
+      (e : AtExit (onPlain R) κs) (e′ : AtExit (onView R) κs)
       → ent 𝓤 (c′ κs (there R κs s h k) .ensures (ghost κs s h k g) r e′) (c κs (here R κs s h k) .ensures g r e)
 
 abbrev stayed : (R : Result) → Stays (onPlain R .signature .params) (onPlain R .kept)
@@ -160,7 +161,8 @@ module _ {M : Type 1} (𝓤 : URA M) (H : Heap 𝓤) (A : Atoms 𝓤) (W : Given
     exits : (r : R .row .Denot) (u : Val) → ent 𝓤 (⋆ 𝓤 H A (‵ (R .row .own r (u ∷ [])) ∷ raw Tokens ∷ raw (Told r) ∷ ‵ Kept ∷ [])) (Post u)
     exits r u =
         qed W (‵ (R .row .own r (u ∷ [])) ∷ raw Tokens ∷ raw (Told r) ∷ ‵ Kept ∷ []) ∵
-        suffices ! _ (ends-at 𝓤 H A (onPlain R) (stayed R) c W (((κ, tt), (q, tt), tt, here R (κ, tt) s h k, passed), g) u r (tt, (tt, (tt, tt))) (tt, (tt, (tt, tt)))) $
+        suffices ! _ (ends-at 𝓤 H A (onPlain R) (stayed R) c W (((κ, tt), (q, tt), tt, here R (κ, tt) s h k, passed), g) u r
+        (tt, (tt, (tt, tt))) (tt, (tt, (tt, tt)))) $
         move ! (3 ∷ 0 ∷ []) $ join ! $ move ! (1 ∷ 0 ∷ []) $ join ! $ done !
 
     module _ (C : Calls 𝓤 H) (Λ : Loops 𝓤 H) (fm : FmC 𝓤 H (W .laws) C) (known : Triple 𝓤 (C fetch) Fetch) where
@@ -171,7 +173,8 @@ module _ {M : Type 1} (𝓤 : URA M) (H : Heap 𝓤) (A : Atoms 𝓤) (W : Given
           alloc1 ! (λ l₀. alloc1 ! (λ l₁. alloc1 ! (λ l₂. alloc1 ! (λ l₃. alloc1 ! (λ l₄. alloc0 ! $
           params1 ! $ pass1 ! (init ! 6 refl vt) $ pass1 ! (init ! 4 refl nt) $ pass1 ! (init ! 2 refl (tt, record { fits = fits })) $ pass0 ! $
           -- [_4; …; _3; …; _2; …; _1; …; room for _0; …; what is had at entry]
-          assigns ! (agg ! (and-then ! (load ! (from ! (stop !)) (look ! 6 refl)) (and-then ! (load ! (from ! (stop !)) (look ! 4 refl)) (no-more !)))) (from ! (stop !)) (init ! 0 refl (tt, (vt .1, (nt .1, tt)))) $
+          assigns ! (agg ! (and-then ! (load ! (from ! (stop !)) (look ! 6 refl))
+          (and-then ! (load ! (from ! (stop !)) (look ! 4 refl)) (no-more !)))) (from ! (stop !)) (init ! 0 refl (tt, (vt .1, (nt .1, tt)))) $
           move ! (10 ∷ []) $ use1 W (raw (Fetch .pre to) ⊛ ‵ Kept) together $ split ! $
           -- [what the fetch asks; what is kept; _4; …; _3; …; _2; …; _1; …; room for _0; …]
           calls-told ! fm (onView R) c′ known to Told (λ r e. same .tells (κ, tt) s h k g r (s, (h, (k, tt))) e)
@@ -179,17 +182,24 @@ module _ {M : Type 1} (𝓤 : URA M) (H : Heap 𝓤) (A : Atoms 𝓤) (W : Given
           -- [the result; the token; what is told; what is kept; _4; …; _3; …; _2; …; _1; …; room for _0; …]
           land ! (from ! (stop !)) (init ! 12 refl (R .typed 𝓤 H A W r u is)) $
           returns ! (look ! 12 refl) $ forget ! 4 refl $ forget ! 6 refl $ forget ! 8 refl $ forget ! 10 refl $ forget ! 12 refl $
-          move ! (12 ∷ 13 ∷ []) $ free1 ! $ move ! (10 ∷ 11 ∷ []) $ free1 ! $ move ! (8 ∷ 9 ∷ []) $ free1 ! $ move ! (6 ∷ 7 ∷ []) $ free1 ! $ move ! (4 ∷ 5 ∷ []) $ free1 ! $ free0 ! $
+          move ! (12 ∷ 13 ∷ []) $ free1 ! $ move ! (10 ∷ 11 ∷ []) $ free1 ! $ move ! (8 ∷ 9 ∷ []) $ free1 ! $ move ! (6 ∷ 7 ∷ []) $
+          free1 ! $ move ! (4 ∷ 5 ∷ []) $ free1 ! $ free0 ! $
           by ! (exits r u)))))))
 
   serve-meets : (𝓣 : Tables 𝓤 H) → Triple 𝓤 (𝓣 .C fetch) Fetch → Triple 𝓤 (WpFn 𝓤 H (𝓣 .C) (𝓣 .Λ) (serveCode (R .ty) fetch)) (Called 𝓤 H A (onPlain R) c)
   serve-meets 𝓣 known =
       let code = serveCode (R .ty) fetch in
-      walk-meets 𝓤 H A (onPlain R) (stayed R) W
-      (goes-none-slice 𝓤 H A W 1 (0 ∷ []) tt (plain (λ _. u8)) yes, (goes-none 𝓤 H A W 1 (λ _. N.the-row) yes (λ κs x f. refl), (goes-none 𝓤 H A W 1 (λ _. usize) yes (λ κs x f. refl), tt)))
+      walk-meets 𝓤 H A (onPlain R) (stayed R) W (
+        goes-none-slice 𝓤 H A W 1 (0 ∷ []) tt (plain (λ _. u8)) yes,
+        (
+          goes-none 𝓤 H A W 1 (λ _. N.the-row) yes (λ κs x f. refl),
+          (goes-none 𝓤 H A W 1 (λ _. usize) yes (λ κs x f. refl), tt),
+        ),
+      )
       c (WpFn 𝓤 H (𝓣 .C) (𝓣 .Λ) code) (WpFn-mono 𝓤 H (W .laws) 𝓣 code)
       (walked 𝓤 H A (onPlain R) (stayed R) c (WpFn 𝓤 H (𝓣 .C) (𝓣 .Λ) code)
-      (λ κs. (slice-vals, (LL.vals N.the-type N′.the-laws, (uint-vals w64, tt)))) (λ κs. (shr-slice-tells (named 0) (κs .0) u8, (LL.tells N.the-type N′.the-laws, (uint-tells w64, tt))))
+      (λ κs. (slice-vals, (LL.vals N.the-type N′.the-laws, (uint-vals w64, tt))))
+      (λ κs. (shr-slice-tells (named 0) (κs .0) u8, (LL.tells N.the-type N′.the-laws, (uint-tells w64, tt))))
       (λ κs qs bounds a g are. walk (κs .0) (qs .0) (a .0) (a .1 .0) (a .1 .1 .0) (are .1 .1 .0 .1) g (𝓣 .C) (𝓣 .Λ) (fmOf 𝓤 H (W .laws) 𝓣) known
       (shr-slice-lawful 𝓤 H A W (named 0) (κs .0) u8 .typed (a .0) _ (are .0) .0) (LL.lawful N.the-type N′.the-laws 𝓤 H A W .typed (a .1 .0) _ (are .1 .0) .0)))
 

@@ -80,7 +80,11 @@ shared-slice-read-if2 : tie.Need-shared-slice-read-if2 Inv-loop μ-loop
 shared-slice-read-if2 c = let l = inside (c .before) in omega arith
 
 cast-if2 : tie.Need-cast-if2 Inv-loop μ-loop
-cast-if2 c = let l = inside (c .before) in omega (arith, c .shared-slice-known2 .given (c .before .before .loop .i * c .before .before .before .before .row-bytes .result + (c .before .before .before .before .row-bytes .result - 1)))
+cast-if2 c =
+    let l = inside (c .before) in
+    let i = c .before .before .loop .i in
+    let size = c .before .before .before .before .row-bytes .result in
+    omega (arith, c .shared-slice-known2 .given (i * size + (size - 1)))
 
 returns-2 : tie.Need-returns-2 Inv-loop μ-loop
 unfolding firstUnused

@@ -30,7 +30,10 @@ loop-holds : tie.Need-loop-holds Inv-loop μ-loop
 loop-holds c = (omega arith, below-none _)
 
 window-fit-requires : tie.Need-window-fit-requires Inv-loop μ-loop
-window-fit-requires c κs = let S = c .before .before .before .before .before .pre .0 .framed .small in (c .before .before .before .before .before .pre .0, omega arith)
+window-fit-requires c κs =
+    let p = c .before .before .before .before .before .pre in
+    let S = p .0 .framed .small in
+    (p .0, omega arith)
 
 enum-known-x : tie.Need-enum-known-x Inv-loop μ-loop
 enum-known-x c = search needs
@@ -50,7 +53,11 @@ loop-again c =
     (omega arith, below-more _ _ (w .before .before .loop .inv .1) (fit-none _ _ _ (sym (w .window-fit .ensures) ∙ c .enum-told .given .1)))
 
 on-strips-requires : tie.Need-on-strips-requires Inv-loop μ-loop
-on-strips-requires c κs = let p = c .before .before .before .before .before .before .before .before .before .pre in (p .0 .framed .small, (let n = p .0 .framed .small in let e = p .1 .size in omega arith))
+on-strips-requires c κs =
+    let p = c .before .before .before .before .before .before .before .before .before .pre in
+    let S = p .0 .framed .small in
+    let e = p .1 .size in
+    (S, omega arith)
 
 returns : tie.Need-returns Inv-loop μ-loop
 returns c =

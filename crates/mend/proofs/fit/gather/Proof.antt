@@ -68,7 +68,8 @@ loop-again c =
     let a = c .before .before .before .before .before .before in
     let w = c .before .before .loop in
     let l = room a in
-    let m = one-more (entryAt (codeWith (a .args .plan .now) (a .args .h)) (a .args .i)) (w .words) (w .k) _ (omega arith) (w .inv .1) (w .inv .2) (c .row-entry .ensures .value) in
+    let f = entryAt (codeWith (a .args .plan .now) (a .args .h)) (a .args .i) in
+    let m = one-more f (w .words) (w .k) _ (omega arith) (w .inv .1) (w .inv .2) (c .row-entry .ensures .value) in
     (omega arith, m .0, m .1)
 
 returns : tie.Need-returns Inv-loop μ-loop

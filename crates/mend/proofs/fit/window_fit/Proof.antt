@@ -25,7 +25,9 @@ array-share-prefix-words : tie.Need-array-share-prefix-words
 array-share-prefix-words c = let a = c .before .before .before in omega (arith, few a, c .before .gather .ensures .size)
 
 slice-aggregate-solver-of : tie.Need-slice-aggregate-solver-of
-slice-aggregate-solver-of c = let a = c .before .before .before .before in sym (length-take-le _ _ (omega (arith, few a, c .before .before .gather .ensures .size)))
+slice-aggregate-solver-of c =
+    let a = c .before .before .before .before in
+    sym (length-take-le _ _ (omega (arith, few a, c .before .before .gather .ensures .size)))
 
 solver-of-requires : tie.Need-solver-of-requires
 solver-of-requires c κs = search needs
@@ -43,15 +45,19 @@ returns : tie.Need-returns
 returns c =
     let w = c .before .before .before .before .before .before .before .before in
     let a = w .before .before .before .before .before in
-    fit-solved (codeWith (a .args .plan .now) (a .args .h)) (a .pre .0 .formed) (a .args .i) (a .pre .1) (a .pre .0 .conditions) (a .args .v) (omega arith) _
-    (solved-from _ _ _ _ _ _ (c .before .before .before .solve .ensures) (w .solver-of .ensures) (w .before .before .before .gather .ensures .entries) (c .before .x .given .1))
+    let k = codeWith (a .args .plan .now) (a .args .h) in
+    let held = w .before .before .before .gather .ensures .entries in
+    fit-solved k (a .pre .0 .formed) (a .args .i) (a .pre .1) (a .pre .0 .conditions) (a .args .v) (omega arith) _
+    (solved-from _ _ _ _ _ _ (c .before .before .before .solve .ensures) (w .solver-of .ensures) held (c .before .x .given .1))
 
 returns-2 : tie.Need-returns-2
 returns-2 c =
     let w = c .before .before .before .before .before .before .before in
     let a = w .before .before .before .before .before in
-    fit-solved (codeWith (a .args .plan .now) (a .args .h)) (a .pre .0 .formed) (a .args .i) (a .pre .1) (a .pre .0 .conditions) (a .args .v) (omega arith) _
-    (solved-from _ _ _ _ _ _ (c .before .before .solve .ensures) (w .solver-of .ensures) (w .before .before .before .gather .ensures .entries) (c .enum-told .given .1))
+    let k = codeWith (a .args .plan .now) (a .args .h) in
+    let held = w .before .before .before .gather .ensures .entries in
+    fit-solved k (a .pre .0 .formed) (a .args .i) (a .pre .1) (a .pre .0 .conditions) (a .args .v) (omega arith) _
+    (solved-from _ _ _ _ _ _ (c .before .before .solve .ensures) (w .solver-of .ensures) held (c .enum-told .given .1))
 
 pub window-fit-spec : {M : Type 1} → statement M
 window-fit-spec =

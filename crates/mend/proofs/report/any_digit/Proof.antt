@@ -21,15 +21,21 @@ abbrev μ-loop : tie.MeasureT-loop
 loop-holds : tie.Need-loop-holds Inv-loop μ-loop
 loop-holds c = (omega arith, omega arith, below-none _)
 
+-- the digits passed are few
+far : (c : tie.At-loop Inv-loop μ-loop) → c .loop .l ≤ 4 → c .loop .l * c .before .args .step ≤ 16
+far c l = mul-le-mul {n₂ = 4} {m₂ = 4} l (let s : c .before .args .step ≤ 4 = omega arith in s)
+
 digit-requires : tie.Need-digit-requires Inv-loop μ-loop
-digit-requires c κs = omega (arith, mul-le-mul {n₂ = 4} {m₂ = 4} (let l : c .before .loop .l ≤ 4 = omega arith in l) (let l : c .before .before .args .step ≤ 4 = omega arith in l))
+digit-requires c κs = let m = far (c .before) (omega arith) in omega arith
 
 returns : tie.Need-returns Inv-loop μ-loop
 unfolding anyOf
-returns c = sym (any-here _ _ (c .before .before .before .loop .l) (omega arith) (one-true _ _ (rw (c .before .before .before .loop .inv .1) at (c .before .digit .ensures)) (c .if1 .taken)))
+returns c =
+    let w = c .before .before .before .loop in
+    sym (any-here _ _ (w .l) (omega arith) (one-true _ _ (rw (w .inv .1) at (c .before .digit .ensures)) (c .if1 .taken)))
 
 add-k : tie.Need-add-k Inv-loop μ-loop
-add-k c = omega (arith, mul-le-mul {n₂ = 4} {m₂ = 4} (let l : c .before .before .before .loop .l ≤ 4 = omega arith in l) (let l : c .before .before .before .before .args .step ≤ 4 = omega arith in l))
+add-k c = let m = far (c .before .before .before) (omega arith) in omega arith
 
 add-l : tie.Need-add-l Inv-loop μ-loop
 add-l c = omega arith
@@ -38,11 +44,13 @@ loop-less : tie.Need-loop-less Inv-loop μ-loop
 loop-less c = omega arith
 
 loop-again : tie.Need-loop-again Inv-loop μ-loop
-loop-again c = (
-  omega arith,
-  omega (arith, times-next (c .before .before .before .loop .l) (c .before .before .before .before .args .step)),
-  below-more _ _ (c .before .before .before .loop .inv .2) (not-one _ _ (rw (c .before .before .before .loop .inv .1) at (c .before .digit .ensures)) (c .if1 .left)),
-)
+loop-again c =
+    let a = c .before .before .before in
+    let w = a .loop in (
+      omega arith,
+      omega (arith, times-next (w .l) (a .before .args .step)),
+      below-more _ _ (w .inv .2) (not-one _ _ (rw (w .inv .1) at (c .before .digit .ensures)) (c .if1 .left)),
+    )
 
 returns-2 : tie.Need-returns-2 Inv-loop μ-loop
 unfolding anyOf

@@ -24,9 +24,11 @@ digit-requires c κs = omega arith
 
 add-count : tie.Need-add-count Inv-loop μ-loop
 add-count c =
-    let b : c .digit .result ≤ 1 = digit-most (bit (c .before .before .before .args .x) (c .before .before .loop .k)) _ (c .digit .ensures) in
-    let l : countBelow (c .before .before .loop .k) (bit (c .before .before .before .args .x)) ≤ c .before .before .loop .k = count-le _ _ in
-    let e : c .before .before .loop .count ≡ countBelow (c .before .before .loop .k) (bit (c .before .before .before .args .x)) = c .before .before .loop .inv .1 in
+    let w = c .before .before .loop in
+    let x = c .before .before .before .args .x in
+    let b : c .digit .result ≤ 1 = digit-most (bit x (w .k)) _ (c .digit .ensures) in
+    let l : countBelow (w .k) (bit x) ≤ w .k = count-le _ _ in
+    let e : w .count ≡ countBelow (w .k) (bit x) = w .inv .1 in
     omega arith
 
 add-k : tie.Need-add-k Inv-loop μ-loop
@@ -37,7 +39,10 @@ loop-less c = omega arith
 
 loop-again : tie.Need-loop-again Inv-loop μ-loop
 unfolding countBelow
-loop-again c = (omega arith, ap₂ _+_ (c .before .before .loop .inv .1) (c .digit .ensures) ∙ sym (ap (λ (n : ℕ). countBelow n (bit (c .before .before .before .args .x))) (add-one (c .before .before .loop .k))))
+loop-again c =
+    let w = c .before .before .loop in
+    let x = c .before .before .before .args .x in
+    (omega arith, ap₂ _+_ (w .inv .1) (c .digit .ensures) ∙ sym (ap (λ (n : ℕ). countBelow n (bit x)) (add-one (w .k))))
 
 returns : tie.Need-returns Inv-loop μ-loop
 returns c = let e : c .before .loop .k ≡ c .before .before .args .n = omega arith in rw e at (c .before .loop .inv .1)

@@ -21,10 +21,18 @@ loop-holds : tie.Need-loop-holds Inv-loop μ-loop
 loop-holds c = (omega arith, below-none _)
 
 mul-any-digit : tie.Need-mul-any-digit Inv-loop μ-loop
-mul-any-digit c = let j : c .before .loop .k ≤ 3 = omega arith in let l : c .before .before .args .jump ≤ 4 = omega arith in let m = mul-le-mul {n₂ = 3} {m₂ = 4} j l in omega arith
+mul-any-digit c =
+    let j : c .before .loop .k ≤ 3 = omega arith in
+    let l : c .before .before .args .jump ≤ 4 = omega arith in
+    let m = mul-le-mul {n₂ = 3} {m₂ = 4} j l in
+    omega arith
 
 any-digit-requires : tie.Need-any-digit-requires Inv-loop μ-loop
-any-digit-requires c κs = let j : c .before .loop .k ≤ 3 = omega arith in let l : c .before .before .args .jump ≤ 4 = omega arith in let m = mul-le-mul {n₂ = 3} {m₂ = 4} j l in omega arith
+any-digit-requires c κs =
+    let j : c .before .loop .k ≤ 3 = omega arith in
+    let l : c .before .before .args .jump ≤ 4 = omega arith in
+    let m = mul-le-mul {n₂ = 3} {m₂ = 4} j l in
+    omega arith
 
 returns : tie.Need-returns Inv-loop μ-loop
 returns c = first-found _ _ _ (omega arith) (c .before .before .before .loop .inv .1) (unfold lineHas in sym (c .before .any-digit .ensures) ∙ c .if1 .taken)
@@ -39,7 +47,9 @@ loop-again : tie.Need-loop-again Inv-loop μ-loop
 loop-again c = (omega arith, below-more _ _ (c .before .before .before .loop .inv .1) (unfold lineHas in sym (c .before .any-digit .ensures) ∙ c .if1 .left))
 
 returns-2 : tie.Need-returns-2 Inv-loop μ-loop
-returns-2 c = let e : c .before .loop .k ≡ c .before .before .args .lines = omega arith in sym (first-none _ _ (none-any _ _ (rw e at (c .before .loop .inv .1))))
+returns-2 c =
+    let e : c .before .loop .k ≡ c .before .before .args .lines = omega arith in
+    sym (first-none _ _ (none-any _ _ (rw e at (c .before .loop .inv .1))))
 
 pub first-line-spec : {M : Type 1} → statement M
 first-line-spec =

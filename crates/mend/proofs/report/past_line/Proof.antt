@@ -22,10 +22,18 @@ sub-any-digit : tie.Need-sub-any-digit Inv-loop μ-loop
 sub-any-digit c = omega arith
 
 mul-any-digit : tie.Need-mul-any-digit Inv-loop μ-loop
-mul-any-digit c = let j : c .before .loop .past - 1 ≤ 3 = omega arith in let l : c .before .before .args .jump ≤ 4 = omega arith in let m = mul-le-mul {n₂ = 3} {m₂ = 4} j l in omega arith
+mul-any-digit c =
+    let j : c .before .loop .past - 1 ≤ 3 = omega arith in
+    let l : c .before .before .args .jump ≤ 4 = omega arith in
+    let m = mul-le-mul {n₂ = 3} {m₂ = 4} j l in
+    omega arith
 
 any-digit-requires : tie.Need-any-digit-requires Inv-loop μ-loop
-any-digit-requires c κs = let j : c .before .loop .past - 1 ≤ 3 = omega arith in let l : c .before .before .args .jump ≤ 4 = omega arith in let m = mul-le-mul {n₂ = 3} {m₂ = 4} j l in omega arith
+any-digit-requires c κs =
+    let j : c .before .loop .past - 1 ≤ 3 = omega arith in
+    let l : c .before .before .args .jump ≤ 4 = omega arith in
+    let m = mul-le-mul {n₂ = 3} {m₂ = 4} j l in
+    omega arith
 
 returns : tie.Need-returns Inv-loop μ-loop
 unfolding lineHas
@@ -38,7 +46,9 @@ loop-less : tie.Need-loop-less Inv-loop μ-loop
 loop-less c = omega arith
 
 loop-again : tie.Need-loop-again Inv-loop μ-loop
-loop-again c = (omega arith, c .before .before .before .loop .inv .1 ∙ past-before _ _ (omega arith) (unfold lineHas in sym (c .before .any-digit .ensures) ∙ c .if1 .left))
+loop-again c =
+    let w = c .before .before .before .loop in
+    (omega arith, w .inv .1 ∙ past-before _ _ (omega arith) (unfold lineHas in sym (c .before .any-digit .ensures) ∙ c .if1 .left))
 
 returns-2 : tie.Need-returns-2 Inv-loop μ-loop
 unfolding pastOf

@@ -14,7 +14,11 @@ abbrev μ-loop : tie.MeasureT-loop
 μ-loop b1 b2 a x y₀ k₀ y k = k
 
 low : (c : tie.At-loop Inv-loop μ-loop) → c .loop .y < 65536
-low c = let b = digits-below _ (c .loop .k) (laidDigit (c .before .args .b2) (c .before .args .a) (c .before .args .x)) (box-size (c .before .pre .0)) in let e = c .loop .inv .1 in omega arith
+low c =
+    let a = c .before .args in
+    let b = digits-below _ (c .loop .k) (laidDigit (a .b2) (a .a) (a .x)) (box-size (c .before .pre .0)) in
+    let e = c .loop .inv .1 in
+    omega arith
 
 mul-k : tie.Need-mul-k Inv-loop μ-loop
 mul-k c = omega (arith, box-size (c .pre .0))

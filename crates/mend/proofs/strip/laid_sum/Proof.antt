@@ -11,7 +11,8 @@ use Rattle.mend.proofs.strip.laid_sum.Statement.{statement}
 use Rattle.mend.proofs.strip.laid_sum.Tie as tie
 
 abbrev Inv-loop : tie.InvT-loop
-Inv-loop columns b1 b2 i a x sum₀ u₀ first₀ r₀ sum u first r = (r ≤ b1) × (u ≡ (i + r) % b1) × (first ≡ r * b2) × (sum ≡ xorSum r (laidLine b1 b2 (wordAt columns) i a x))
+Inv-loop columns b1 b2 i a x sum₀ u₀ first₀ r₀ sum u first r =
+    (r ≤ b1) × (u ≡ (i + r) % b1) × (first ≡ r * b2) × (sum ≡ xorSum r (laidLine b1 b2 (wordAt columns) i a x))
 
 abbrev μ-loop : tie.MeasureT-loop
 μ-loop columns b1 b2 i a x sum₀ u₀ first₀ r₀ sum u first r = b1 - r

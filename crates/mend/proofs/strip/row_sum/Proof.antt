@@ -13,7 +13,8 @@ use Rattle.mend.proofs.strip.row_sum.Statement.{statement}
 use Rattle.mend.proofs.strip.row_sum.Tie as tie
 
 abbrev Inv-loop : tie.InvT-loop
-Inv-loop columns b1 b2 u first a x sum₀ t₀ at₀ d₀ sum t at d = (d ≤ b2) × (t ≡ (a + d) % b2) × (at ≡ (a + d) * b1 + u) × (sum ≡ xorSum d (laidCell b1 b2 (wordAt columns) u first a x))
+Inv-loop columns b1 b2 u first a x sum₀ t₀ at₀ d₀ sum t at d =
+    (d ≤ b2) × (t ≡ (a + d) % b2) × (at ≡ (a + d) * b1 + u) × (sum ≡ xorSum d (laidCell b1 b2 (wordAt columns) u first a x))
 
 abbrev μ-loop : tie.MeasureT-loop
 μ-loop columns b1 b2 u first a x sum₀ t₀ at₀ d₀ sum t at d = b2 - d
@@ -45,10 +46,16 @@ rem-t : tie.Need-rem-t Inv-loop μ-loop
 rem-t c = omega arith
 
 mul-at : tie.Need-mul-at Inv-loop μ-loop
-mul-at c = let m = columns-most (c .before .args .a) 0 (c .before .args .b1) (omega arith) (omega arith) (omega arith) in omega (arith, zero-more (c .before .args .a) (c .before .args .b1))
+mul-at c =
+    let a = c .before .args in
+    let m = columns-most (a .a) 0 (a .b1) (omega arith) (omega arith) (omega arith) in
+    omega (arith, zero-more (a .a) (a .b1))
 
 add-at : tie.Need-add-at Inv-loop μ-loop
-add-at c = let m = columns-most (c .before .args .a) 0 (c .before .args .b1) (omega arith) (omega arith) (omega arith) in omega (arith, zero-more (c .before .args .a) (c .before .args .b1))
+add-at c =
+    let a = c .before .args in
+    let m = columns-most (a .a) 0 (a .b1) (omega arith) (omega arith) (omega arith) in
+    omega (arith, zero-more (a .a) (a .b1))
 
 loop-holds : tie.Need-loop-holds Inv-loop μ-loop
 loop-holds c = (omega arith, mod-start _ _, omega (arith, zero-more (c .before .args .a) (c .before .args .b1)), sum-start _)

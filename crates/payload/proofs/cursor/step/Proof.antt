@@ -37,8 +37,10 @@ returns c =
     let start = c .before .before .before .before .before .before .before .before in
     let pre = start .pre in
     let e : start .args .at .cell ≡ start .args .at .next = omega arith in
+    let k = c .before .before .before .before .before in
     record {
-      at = at-pass _ (pre .1 .0) _ (pre .1 .1 .0) (pre .1 .1 .1) _ _ (c .before .before .before .before .before .before .row-after .ensures) (c .before .before .before .before .before .column-after .ensures) _ e (c .next-check .ensures);
+      at = at-pass _ (pre .1 .0) _ (pre .1 .1 .0) (pre .1 .1 .1) _ _ (k .before .row-after .ensures) (k .column-after .ensures) _ e
+          (c .next-check .ensures);
       one = refl;
     }
 
@@ -57,8 +59,9 @@ returns-2 c =
     let start = c .before .before .before .before .before .before .before in
     let pre = start .pre in
     let ne : start .args .at .cell ≡ start .args .at .next → ⊥ = c .before .before .if1 .left in
+    let k = c .before .before .before .before in
     record {
-      at = at-fill _ (pre .1 .0) _ (pre .1 .1 .0) (pre .1 .1 .1) _ _ (c .before .before .before .before .before .row-after .ensures) (c .before .before .before .before .column-after .ensures) ne;
+      at = at-fill _ (pre .1 .0) _ (pre .1 .1 .0) (pre .1 .1 .1) _ _ (k .before .row-after .ensures) (k .column-after .ensures) ne;
       one = refl;
     }
 

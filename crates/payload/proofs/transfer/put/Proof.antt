@@ -90,7 +90,9 @@ loop-again c =
     )
 
 same-length : tie.Need-same-length Inv-loop μ-loop
-same-length c = ap length (c .before .loop .inv .6) ∙ bytes-form _ _ _ .size ∙ sym (c .before .before .before .before .before .before .before .before .before .before .before .before .pre .1 .1 .1)
+same-length c =
+    let pre = c .before .before .before .before .before .before .before .before .before .before .before .before .pre in
+    ap length (c .before .loop .inv .6) ∙ bytes-form _ _ _ .size ∙ sym (pre .1 .1 .1)
 
 returns : tie.Need-returns Inv-loop μ-loop
 returns c = c .before .loop .inv .6 ∙ put-all _ _ _ (omega arith)

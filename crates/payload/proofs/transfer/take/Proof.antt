@@ -90,10 +90,14 @@ loop-again c =
     )
 
 same-length : tie.Need-same-length Inv-loop μ-loop
-same-length c = ap length (c .before .loop .inv .6) ∙ bytes-form _ _ _ .size ∙ row-sheet _ ∙ sym (c .before .before .before .before .before .before .before .before .before .before .before .before .pre .1 .1 .0)
+same-length c =
+    let pre = c .before .before .before .before .before .before .before .before .before .before .before .before .pre in
+    ap length (c .before .loop .inv .6) ∙ bytes-form _ _ _ .size ∙ row-sheet _ ∙ sym (pre .1 .1 .0)
 
 returns : tie.Need-returns Inv-loop μ-loop
-returns c = c .before .loop .inv .6 ∙ take-all _ _ (c .before .before .before .before .before .before .before .before .before .before .before .before .pre .1 .0) _ (omega arith)
+returns c =
+    let pre = c .before .before .before .before .before .before .before .before .before .before .before .before .pre in
+    c .before .loop .inv .6 ∙ take-all _ _ (pre .1 .0) _ (omega arith)
 
 pub take-spec : {M : Type 1} → statement M
 take-spec =

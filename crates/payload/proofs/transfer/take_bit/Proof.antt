@@ -11,13 +11,17 @@ cell-requires : tie.Need-cell-requires
 cell-requires c κs = search needs
 
 turn-if-requires : tie.Need-turn-if-requires
-turn-if-requires c κs = (c .before .before .before .before .before .before .pre .0 .0, c .before .before .before .before .before .before .pre .1 (ne-eqb _ _ (c .before .before .if1 .left)))
+turn-if-requires c κs =
+    let p = c .before .before .before .before .before .before .pre in
+    (p .0 .0, p .1 (ne-eqb _ _ (c .before .before .if1 .left)))
 
 same-length : tie.Need-same-length
 same-length c = search needs
 
 returns-2 : tie.Need-returns-2
-returns-2 c = rw (ne-eqb _ _ (c .before .before .before .before .before .if1 .left), ← c .before .before .before .cell .ensures) (c .before .before .turn-if .ensures)
+returns-2 c =
+    let t = c .before .before in
+    rw (ne-eqb _ _ (t .before .before .before .if1 .left), ← t .before .cell .ensures) (t .turn-if .ensures)
 
 pub take-bit-spec : {M : Type 1} → statement M
 take-bit-spec = tie.close (tie.spec returns cell-requires turn-if-requires same-length returns-2)

@@ -18,7 +18,8 @@ use contract.Lifetimes.{Lfts}
 use contract.Monad.{Fun, fact}
 use types.Kit.{Given, ‵, raw, _⊛_, ⋆, _$_, _∵_, !, qed, by, move, keep, given, use1, split, learn, rewrite, fsplit, suffices, frame, done}
 use types.Part.{whole, sub, look-in}
-use types.Run.{look, init, forget, stop, fld, from, load, of-opd, and-then, no-more, assigns, land, returns, enter, alloc1, alloc0, params1, pass1, pass0, free1, free0}
+use types.Run.{look, init, forget, stop, fld, from, load, of-opd, and-then, no-more, assigns, land, returns, enter, alloc1, alloc0, params1}
+use types.Run.{pass1, pass0, free1, free0}
 use sound.WpLaws.{fmOf}
 use denote.RattleType.{RattleType}
 use denote.Laws.{Is}
@@ -76,13 +77,15 @@ module _ {M : Type 1} (𝓤 : URA M) (H : Heap 𝓤) (A : Atoms 𝓤) (W : Given
     αᵉ = record { mir = erased; lft = κ }
 
     exits : (d : View) → Told d
-        → ent 𝓤 (⋆ 𝓤 H A (‵ (viewRow (κ, tt) .own d (T′.lowered d ∷ [])) ∷ raw (Tokens 𝓤 H A headerRow κ q) ∷ ‵ (Kept κ s) ∷ [])) (Post (N′.lowered (d .header)))
+        → ent 𝓤 (⋆ 𝓤 H A (‵ (viewRow (κ, tt) .own d (T′.lowered d ∷ [])) ∷ raw (Tokens 𝓤 H A headerRow κ q) ∷ ‵ (Kept κ s) ∷ []))
+        (Post (N′.lowered (d .header)))
     exits d e =
         qed W (‵ (viewRow (κ, tt) .own d (T′.lowered d ∷ [])) ∷ raw (Tokens 𝓤 H A headerRow κ q) ∷ ‵ (Kept κ s) ∷ []) ∵
         suffices ! _ (ends-at 𝓤 H A header.ended (stayed headerRow) (header.clauses 𝓤 H A mem run) W
         (((κ, tt), (q, tt), tt, (s, tt), (value s ∷ [], tt)), tt) (N′.lowered (d .header)) (d .header) (tt, tt) (tt, tt)) $ says ! (e .1) $
         move ! (1 ∷ []) $ frame ! $ move ! (1 ∷ []) $ frame ! $
-        use1 W (given (T′.lowered d ∷ [] ≡ T′.lowered d ∷ []) (‵ (all-own (D .parts) L (d .plan, (d .header, tt))))) (own-open 𝓤 H A W D L (d .plan, (d .header, tt)) (T′.lowered d)) $ learn ! (λ _.
+        use1 W (given (T′.lowered d ∷ [] ≡ T′.lowered d ∷ []) (‵ (all-own (D .parts) L (d .plan, (d .header, tt)))))
+        (own-open 𝓤 H A W D L (d .plan, (d .header, tt)) (T′.lowered d)) $ learn ! (λ _.
         -- [what the slice owns; what the header owns and true]
         fsplit ! $ move ! (1 ∷ []) $ fsplit ! $ keep ! (0 ∷ []) $ done !)
 
@@ -102,8 +105,10 @@ module _ {M : Type 1} (𝓤 : URA M) (H : Heap 𝓤) (A : Atoms 𝓤) (W : Given
           let spelt = LL.tells D L d (u ∷ []) is in
           let wt = LL.lawful (T.the-type αᵉ) (T′.the-laws αᵉ) 𝓤 H A W .typed d (T′.lowered d ∷ []) (subst (Is (viewRow (κ, tt)) d) spelt is) .0 in
           land ! (from ! (stop !)) (init ! 3 refl (LL.lawful (T.the-type αᵉ) (T′.the-laws αᵉ) 𝓤 H A W .typed d (u ∷ []) is .0)) $
-          rewrite ! 3 (λ (w : Val). ‵ (fat fullShare (T′.mir erased) l₂ 0 w)) (ap only spelt) refl $ rewrite ! 0 (λ (ws : List Val). ‵ (viewRow (κ, tt) .own d ws)) spelt refl $
-          assigns ! (of-opd ! (load ! (from ! (fld ! refl (stop !))) (look-in ! 3 (sub ! 1 refl (whole !))))) (from ! (stop !)) (init ! 7 refl (tt, wt .1 .1 .0)) $
+          rewrite ! 3 (λ (w : Val). ‵ (fat fullShare (T′.mir erased) l₂ 0 w)) (ap only spelt) refl $
+          rewrite ! 0 (λ (ws : List Val). ‵ (viewRow (κ, tt) .own d ws)) spelt refl $
+          assigns ! (of-opd ! (load ! (from ! (fld ! refl (stop !))) (look-in ! 3 (sub ! 1 refl (whole !))))) (from ! (stop !))
+          (init ! 7 refl (tt, wt .1 .1 .0)) $
           returns ! (look ! 7 refl) $ forget ! 3 refl $ forget ! 5 refl $ forget ! 7 refl $
           move ! (7 ∷ 8 ∷ []) $ free1 ! $ move ! (5 ∷ 6 ∷ []) $ free1 ! $ move ! (3 ∷ 4 ∷ []) $ free1 ! $ free0 ! $ by ! (exits d e))))))
 

@@ -23,9 +23,11 @@ u16-at-requires-2 c κs = search needs
 
 returns : tie.Need-returns
 returns c =
-    let a = c .before .before .before .before in
-    let row : c .before .u16-at .result ≡ checkRowAt (a .args .plan .now) (a .args .h) (a .args .k) = rw (a .pre .0 .checks-at) at (c .before .u16-at .ensures .value) in
-    let column : c .u16-at2 .result ≡ checkColumnAt (a .args .plan .now) (a .args .h) (a .args .k) = rw (a .pre .0 .checks-at) at (c .u16-at2 .ensures .value) in
+    let s = c .before .before .before .before in
+    let a = s .args in
+    let e = s .pre .0 .checks-at in
+    let row : c .before .u16-at .result ≡ checkRowAt (a .plan .now) (a .h) (a .k) = rw e at (c .before .u16-at .ensures .value) in
+    let column : c .u16-at2 .result ≡ checkColumnAt (a .plan .now) (a .h) (a .k) = rw e at (c .u16-at2 .ensures .value) in
     record {
       value = ap₂ (λ (i j : ℕ). record { row = i; column = j }) row column;
       row-below = c .before .u16-at .ensures .below;

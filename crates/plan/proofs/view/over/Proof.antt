@@ -68,7 +68,8 @@ module _ {M : Type 1} (𝓤 : URA M) (H : Heap 𝓤) (A : Atoms 𝓤) (W : Given
         qed W (‵ (N.the-row .own h (N′.lowered h ∷ [])) ∷ raw (Tokens 𝓤 H A viewRow κ q) ∷ ‵ (Kept κ s) ∷ []) ∵
         suffices ! _ (ends-at 𝓤 H A over.ended (stayed viewRow) (over.clauses 𝓤 H A mem run) W
         (((κ, tt), (q, tt), tt, (s, tt), (value s ∷ [], tt)), tt) (T′.lowered (made h)) (made h) (tt, tt) (tt, tt)) $ says ! (refl, e) $
-        move ! (1 ∷ []) $ frame ! $ move ! (1 ∷ []) $ fsplit ! $ use1 W (‵ (Own κ s) ⊛ ‵ (Own κ s)) (shr-slice-copy 𝓤 H A W (named 0) κ u8 .twice s (value s ∷ [])) $ split ! $
+        move ! (1 ∷ []) $ frame ! $ move ! (1 ∷ []) $ fsplit ! $ use1 W (‵ (Own κ s) ⊛ ‵ (Own κ s))
+        (shr-slice-copy 𝓤 H A W (named 0) κ u8 .twice s (value s ∷ [])) $ split ! $
         -- [what the slice owns, twice; true; what the header owns]
         move ! (0 ∷ 2 ∷ []) $ fjoin ! $ frame ! $ nothing ! $ move ! (2 ∷ 0 ∷ []) $ fjoin ! $ move ! (1 ∷ 0 ∷ []) $ fjoin ! $
         by ! (own-shut 𝓤 H A W (T.the-type (namedLft 1 0 tt (κ, tt))) (T′.the-laws (namedLft 1 0 tt (κ, tt))) (s, (h, tt)))
@@ -89,8 +90,10 @@ module _ {M : Type 1} (𝓤 : URA M) (H : Heap 𝓤) (A : Atoms 𝓤) (W : Given
           let spelt = LL.tells N.the-type N′.the-laws h (u ∷ []) is in
           let nt = LL.lawful N.the-type N′.the-laws 𝓤 H A W .typed h (N′.lowered h ∷ []) (subst (Is N.the-row h) spelt is) .0 in
           land ! (from ! (stop !)) (init ! 3 refl (LL.lawful N.the-type N′.the-laws 𝓤 H A W .typed h (u ∷ []) is .0)) $
-          rewrite ! 3 (λ (w : Val). ‵ (fat fullShare N′.mir l₂ 0 w)) (ap only spelt) refl $ rewrite ! 0 (λ (ws : List Val). ‵ (N.the-row .own h ws)) spelt refl $
-          assigns ! (agg ! (and-then ! (load ! (from ! (stop !)) (look ! 5 refl)) (and-then ! (load ! (from ! (stop !)) (look ! 3 refl)) (no-more !)))) (from ! (stop !)) (init ! 7 refl (tt, (vt .1, (nt .1, tt)))) $
+          rewrite ! 3 (λ (w : Val). ‵ (fat fullShare N′.mir l₂ 0 w)) (ap only spelt) refl $
+          rewrite ! 0 (λ (ws : List Val). ‵ (N.the-row .own h ws)) spelt refl $
+          assigns ! (agg ! (and-then ! (load ! (from ! (stop !)) (look ! 5 refl))
+          (and-then ! (load ! (from ! (stop !)) (look ! 3 refl)) (no-more !)))) (from ! (stop !)) (init ! 7 refl (tt, (vt .1, (nt .1, tt)))) $
           returns ! (look ! 7 refl) $ forget ! 3 refl $ forget ! 5 refl $ forget ! 7 refl $
           move ! (7 ∷ 8 ∷ []) $ free1 ! $ move ! (5 ∷ 6 ∷ []) $ free1 ! $ move ! (3 ∷ 4 ∷ []) $ free1 ! $ free0 ! $ by ! (exits h e))))))
 

@@ -50,10 +50,13 @@ add-k c = let l = start c in omega arith
 loop-holds : tie.Need-loop-holds Inv-loop μ-loop
 loop-holds c = (omega arith, c .smaller .ensures, walk-first _ _ _ _ _ _ _)
 
+abbrev given : tie.In-loop Inv-loop μ-loop → tie.Start Inv-loop μ-loop
+given c = c .before .before .before .before .before
+
 here : (c : tie.In-loop Inv-loop μ-loop)
-    → Here (c .before .before .before .before .before .args .n2) (c .before .before .before .before .before .args .b1) (c .before .before .before .before .before .args .b2)
-    (c .before .before .before .before .before .args .t4) (c .before .before .before .before .before .args .columns .now) (c .before .loop .place) (c .before .loop .k)
-here c = walk-here _ _ _ _ _ _ _ _ _ _ _ _ _ _ (c .before .before .before .before .before .pre .0) (c .before .loop .inv .2) (omega arith)
+    → Here (given c .args .n2) (given c .args .b1) (given c .args .b2) (given c .args .t4) (given c .args .columns .now)
+    (c .before .loop .place) (c .before .loop .k)
+here c = walk-here _ _ _ _ _ _ _ _ _ _ _ _ _ _ (given c .pre .0) (c .before .loop .inv .2) (omega arith)
 
 mul-row : tie.Need-mul-row Inv-loop μ-loop
 mul-row c = let w = here c in omega arith
@@ -62,7 +65,9 @@ array-read-row : tie.Need-array-read-row Inv-loop μ-loop
 array-read-row c = let w = here c in omega arith
 
 mul-row-2 : tie.Need-mul-row-2 Inv-loop μ-loop
-mul-row-2 c = let w = here c in omega (arith, times-le (getD (c .before .before .before .before .before .args .t4) (c .before .loop .place) 0) (c .before .loop .rest))
+mul-row-2 c =
+    let w = here c in
+    omega (arith, times-le (getD (given c .args .t4) (c .before .loop .place) 0) (c .before .loop .rest))
 
 mul-column : tie.Need-mul-column Inv-loop μ-loop
 mul-column c = let w = here c in omega arith
@@ -73,7 +78,8 @@ shared-slice-read-column c = let w = here (c .before) in omega arith
 mul-column-2 : tie.Need-mul-column-2 Inv-loop μ-loop
 mul-column-2 c =
     let w = here (c .before) in
-    omega (arith, times-le (getD (c .before .before .before .before .before .before .args .columns .now) (c .before .before .loop .k) 0) (c .before .before .loop .rest))
+    let l = c .before .before .loop in
+    omega (arith, times-le (getD (given (c .before) .args .columns .now) (l .k) 0) (l .rest))
 
 after-requires : tie.Need-after-requires Inv-loop μ-loop
 after-requires c κs = let w = here (c .before) in omega arith

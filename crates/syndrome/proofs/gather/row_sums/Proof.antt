@@ -50,14 +50,18 @@ loop-holds c = (
 )
 
 -- the byte
+abbrev given : tie.In-loop Inv-loop μ-loop → tie.Start Inv-loop μ-loop
+given c = c .before .before .before .before .before .before .before .before
+
 inside : (c : tie.In-loop Inv-loop μ-loop)
-    → c .before .before .before .before .before .before .before .before .args .i * c .before .before .before .row-bytes .result + c .before .loop .b < length (c .before .before .before .before .before .before .before .before .args .sheet .now)
+    → given c .args .i * c .before .before .before .row-bytes .result + c .before .loop .b < length (given c .args .sheet .now)
 unfolding sheetBytes
 inside c =
-    let a = c .before .before .before .before .before .before .before .before .args in
+    let s = c .before .before .before .before .before .before .before .before in
+    let a = s .args in
     let size = c .before .before .before .row-bytes .result in
-    let l : a .i * size + c .before .loop .b < a .h .n1 * size = digits-lt (c .before .before .before .before .before .before .before .before .pre .1 .1 .1) (c .loop-test .taken) in
-    let e : a .h .n1 * size ≡ length (a .sheet .now) = rw (c .before .loop .inv .1) (sym (c .before .before .before .before .before .before .before .before .pre .1 .1 .0)) in
+    let l : a .i * size + c .before .loop .b < a .h .n1 * size = digits-lt (s .pre .1 .1 .1) (c .loop-test .taken) in
+    let e : a .h .n1 * size ≡ length (a .sheet .now) = rw (c .before .loop .inv .1) (sym (s .pre .1 .1 .0)) in
     omega arith
 
 add-byte-sums : tie.Need-add-byte-sums Inv-loop μ-loop
