@@ -10,12 +10,13 @@ use Prim.Native.Nat.{ℕ, _+_, _-_}
 use mathlib.Core.List.{List}
 use Rattle.finite.specs.Search.{least}
 use Rattle.gf2.specs.Independence.{spanned}
-use Rattle.boxcode.specs.Code.{Code, Formed, checkJoint}
-use Rattle.boxcode.specs.Condition.{everyone, rowPairFree, columnPairFree, Conditions}
+use Rattle.boxcode.specs.Code.{Code, checkJoint}
+use Rattle.boxcode.specs.Condition.{everyone, rowPairFree, columnPairFree}
 use Rattle.plan.specs.declared.verdict.Verdict.{Verdict}
 use Rattle.plan.specs.Verdict.{refusal, _orElse_}
-use Rattle.plan.specs.Header.{Framed, headerOf}
+use Rattle.plan.specs.Header.{headerOf}
 use Rattle.plan.specs.Bytes.{codeOf}
+use Rattle.plan.specs.Accepted.{AcceptedAs}
 use Rattle.plan.specs.Form.{verdictAt, formVerdict}
 use Rattle.accept.specs.Pairs.{firstFailing, pairVerdict}
 
@@ -36,7 +37,5 @@ conditionsVerdict c = rowsVerdict c orElse columnsVerdict c orElse checksVerdict
 unfoldable pub planVerdict : List ℕ → Verdict
 planVerdict s = formVerdict s orElse conditionsVerdict (codeOf s)
 
-pub record Accepted (s : List ℕ) : Type 0 where
-  pub framed : Framed s (headerOf s)
-  pub formed : Formed (codeOf s)
-  pub conditions : Conditions (codeOf s)
+abbrev pub Accepted : List ℕ → Type 0
+Accepted s = AcceptedAs s (headerOf s) (codeOf s)

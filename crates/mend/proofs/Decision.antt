@@ -5,6 +5,7 @@
 --   window-none     if no window has a pattern with the V sum, there is no burst
 --   zero-burst, zero-none   a V sum of 0: the empty burst where the H sum is 0 too, else none
 --   strips-decide   what the strips answer for the first pattern found is the answer
+--   search-decides  so is what the search over the windows answers
 --
 -- Assumes nothing.
 use mathlib.Core.Path.{_≡_, refl, sym, ap, _∙_}
@@ -12,6 +13,7 @@ use mathlib.Core.Bool.{Bool, true, false, cond}
 use mathlib.Core.List.{List}
 use Prim.Native.Nat.{ℕ, zero, suc, _+_, _-_, _*_, _%_, _≤_, _<_}
 use native.Mathlib.Omega.{arith}
+use borrow.Author.Count.{below-more}
 use borrow.Author.Tests.{eqb-true, eq-eqb, ltb-true, lt-ltb}
 use lib.Dec.{ltb}
 use Rattle.gf2.specs.Sum.{chosenSum}
@@ -27,16 +29,19 @@ use Rattle.boxcode.proofs.Image.{unpicked}
 use Rattle.boxcode.proofs.Condition.{separated}
 use Rattle.boxcode.proofs.Trial.{BurstWith, has-burst, burst-is}
 use Rattle.boxcode.proofs.Laid.{none-found, strip-found, found-strip}
-use Rattle.mend.specs.Window.{windowSum, entryAt}
+use Rattle.mend.specs.Window.{windowSum, entryAt, firstFit}
 use Rattle.mend.specs.Strip.{wordAt, laidCell, laidRow, laidLine, laidSum, fitsOn, laidDigit, boxPattern, onStrips}
 use Rattle.plan.specs.declared.header.Header.{Header}
 use Rattle.plan.specs.Bytes.{codeWith, columnEntryAt}
 use Rattle.plan.specs.Table.{Unpacked}
 use Rattle.mend.specs.declared.found.Found.the-variants.{Burst, Nothing}
+use Rattle.mend.specs.declared.fit.Fit.{Fit}
+use Rattle.mend.specs.declared.fit.Fit.the-variants.{Pattern, Nothing as Missing}
+use Rattle.mend.specs.Search.{afterFit, searchFrom}
 use Rattle.plan.specs.Accepted.{AcceptedWith}
 use Rattle.mend.specs.Found.{IsBurst, BurstOrNone, FoundFor}
 use Rattle.mend.proofs.First.{found-for}
-use Rattle.mend.proofs.Window.{inWindow, in-window, window-sum, pattern-sum}
+use Rattle.mend.proofs.Window.{fit-sum, fit-none, inWindow, in-window, window-sum, pattern-sum}
 use Rattle.mend.proofs.Laying.{laidCells, laid-entries, laid-sum, laid-number}
 
 module _ (c : Code) (F : Formed c) (K : Conditions c) (v s : ℕ) where
@@ -138,3 +143,29 @@ strips-decide s h words U T v t i x rows q = found-for (codeWith s h) v t (onStr
         (λ k on z.
         let m : a ≤ k = least-most n p k (eq-eqb (laidSum (h .b1) (h .b2) (wordAt words) i k x) t (same k on ∙ z)) in
         never (ltb a n) (lt-ltb a n (omega arith)) e)
+
+-- ---- from the windows to the answer
+
+module _ (s : List ℕ) (h : Header) (words : List ℕ) (U : AcceptedWith s h) (T : Unpacked s h words) (v t : ℕ) where
+  -- the window at row j has no pattern with the V sum
+  abbrev Misses : ℕ → Type 0
+  Misses j = (m : ℕ → Bool) → windowSum (codeWith s h) j m ≡ v → ⊥
+
+  search-rest : (m i : ℕ) → i + m ≡ h .n1 - h .b1 + 1 → ((j : ℕ) → j < i → Misses j)
+      → FoundFor (codeWith s h) v t (searchFrom s h (wordAt words) v t i m)
+  unfolding searchFrom
+  search-rest zero i e none =
+      found-for (codeWith s h) v t Nothing
+      (window-none (codeWith s h) (U .formed) (U .conditions) v t (λ j on m q. none j (let l = U .framed .small .n1-least in omega arith) m q))
+  search-rest (suc m) i e none = go (firstFit (codeWith s h) i v) refl (λ z. search-rest m (suc i) (omega arith) z)
+    where
+      go : (f : Fit) → firstFit (codeWith s h) i v ≡ f
+          → (((j : ℕ) → j < suc i → Misses j) → FoundFor (codeWith s h) v t (searchFrom s h (wordAt words) v t (suc i) m))
+          → FoundFor (codeWith s h) v t (afterFit f (λ x. onStrips h (wordAt words) i x t) (searchFrom s h (wordAt words) v t (suc i) m))
+      go (Pattern x) q rest =
+          let l = U .framed .small .n1-least in
+          strips-decide s h words U T v t i x (omega arith) (fit-sum (codeWith s h) i v x q)
+      go Missing q rest = rest (λ j l. below-more Misses i none (fit-none (codeWith s h) i v q) j (let k : j < i + 1 = omega arith in k))
+
+  pub search-decides : FoundFor (codeWith s h) v t (searchFrom s h (wordAt words) v t 0 (h .n1 - h .b1 + 1))
+  search-decides = search-rest (h .n1 - h .b1 + 1) 0 (omega arith) (λ j l. absurd (omega arith))

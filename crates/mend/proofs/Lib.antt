@@ -4,5 +4,6 @@ pub mod Runs
 pub mod Window
 pub mod Laying
 pub mod First
+pub mod Windows
 pub mod Decision
 pub mod Rectangle

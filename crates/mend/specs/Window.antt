@@ -33,7 +33,6 @@ pub record Gathered (c : Code) (i : ℕ) (words : List ℕ) : Type 0 where
 unfoldable pub windowSum : Code → ℕ → (ℕ → Bool) → ℕ
 windowSum c i m = chosenSum (c .b1 * c .b2) m (entryAt c i)
 
--- 01: only a found pattern goes on to the strips; where a window has none, the next is tried, and 14 is told after the last
 unfoldable pub firstFit : Code → ℕ → ℕ → Fit
 firstFit c i v =
     let x = least (patterns c) (λ x. eqb (windowSum c i (bit x)) v) in

@@ -1,8 +1,12 @@
 // The burst for two sums. The first window that has a pattern with the V sum decides: no other pattern has that sum
 // (proofs/Decision.antt), so only the strips of this one are tried.
+ghost use mathlib.Core.Path.{_≡_};
+ghost use Prim.Native.Nat.{_+_, _-_};
 ghost use Rattle.plan.specs.Bytes.{codeWith};
 ghost use Rattle.plan.specs.Table.{Unpacked};
 ghost use Rattle.plan.specs.Accepted.{AcceptedWith};
+ghost use Rattle.mend.specs.Strip.{wordAt};
+ghost use Rattle.mend.specs.Search.{searchFrom};
 ghost use Rattle.mend.specs.Found.{FoundFor};
 use crate::fit::Fit;
 use crate::fit::window_fit;
@@ -14,7 +18,7 @@ use plan::header::Header;
 fn search(plan: &[u8], h: Header, columns: &[u64], v: u64, s: u64) -> Found
     requires { ⌜ AcceptedWith (now plan) h ⌝ }
     requires { ⌜ Unpacked (now plan) h (now columns) ⌝ }
-    ensures { λ r. ⌜ FoundFor (codeWith (now (plan .entry)) h) v s r ⌝ }
+    ensures { λ r. ⌜ r ≡ searchFrom (now (plan .entry)) h (wordAt (now (columns .entry))) v s 0 (h .n1 - h .b1 + 1) ⌝ }
 {
     let count = h.n1 - h.b1 + 1;
     for i in 0..count {

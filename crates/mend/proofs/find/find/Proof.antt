@@ -2,7 +2,7 @@
 use Rattle.plan.specs.Bytes.{codeWith}
 use Rattle.mend.specs.declared.found.Found.the-variants.{Burst, Nothing}
 use Rattle.mend.proofs.First.{found-for}
-use Rattle.mend.proofs.Decision.{zero-burst, zero-none}
+use Rattle.mend.proofs.Decision.{zero-burst, zero-none, search-decides}
 use borrow.Author.Needs.{needs}
 use Rattle.mend.proofs.find.find.Statement.{statement}
 use Rattle.mend.proofs.find.find.Tie as tie
@@ -11,7 +11,9 @@ search-requires : tie.Need-search-requires
 search-requires c κs = search needs
 
 returns : tie.Need-returns
-returns c = search needs
+returns c =
+    let a = c .before .before .before .before in
+    rw (c .search .ensures) (search-decides _ _ _ (a .pre .0) (a .pre .1) _ _)
 
 returns-2 : tie.Need-returns-2
 returns-2 c =
