@@ -1,5 +1,6 @@
 -- What the reader makes of a sheet:
 --
+--   mendable                 some burst, possibly empty, brings both sums to 0
 --   fits-mendable            a sheet that some burst fits is mendable
 --   change-burst, change-fits   the change of a mendable sheet is a burst that fits
 --   mendable-iff             a sheet is mendable exactly where some burst fits it
@@ -8,15 +9,18 @@
 -- Assumes nothing.
 use mathlib.Core.Path.{_≡_, sym}
 use mathlib.Core.Logic.{_↔_}
-use mathlib.Core.Bool.{true}
+use mathlib.Core.Bool.{Bool, true}
 use Prim.Native.Nat.{ℕ}
 use Rattle.boxcode.specs.Code.{Code, Formed}
 use Rattle.boxcode.specs.Syndrome.{Cells, rowSyndrome, columnSyndrome}
-use Rattle.boxcode.specs.Burst.{Burst, Fits}
-use Rattle.boxcode.specs.Reader.{mendable, change}
+use Rattle.boxcode.specs.Burst.{Burst, Fits, hasBurst}
+use Rattle.boxcode.specs.Reader.{change}
 use Rattle.boxcode.proofs.Separated.{Separated, fits-unique}
 use Rattle.boxcode.proofs.Burst.{fits-row, fits-column, sums-fit}
 use Rattle.boxcode.proofs.Trial.{BurstWith, found, has-burst}
+
+unfoldable pub mendable : Code → Cells → Bool
+mendable c s = hasBurst c (rowSyndrome c s) (columnSyndrome c s)
 
 module _ (c : Code) (F : Formed c) (s : Cells) where
   pub fits-mendable : (e : Cells) → Burst c e → Fits c s e → mendable c s ≡ true

@@ -1,7 +1,6 @@
 -- What the reader makes of a sheet (document 01, "Turned back" and demand 3), by trial and with no algorithm.
 --
---   mendable     some burst, possibly empty, brings both sums to 0
---   change       the cells that are turned over: the first burst that does
+--   change       the cells that are turned over: the first burst, possibly empty, that brings both sums to 0
 --   mended       the sheet after that
 --   Report       how many cells were turned over, and the smallest rectangle that holds them; five zeros where none were
 --   cellCount    the number of cells of a set
@@ -14,10 +13,7 @@ use mathlib.Core.Bool.{Bool}
 use Rattle.finite.specs.Search.{anyBelow, countBelow, firstOf, pastOf}
 use Rattle.boxcode.specs.Code.{Code}
 use Rattle.boxcode.specs.Syndrome.{Cells, flip, rowSyndrome, columnSyndrome}
-use Rattle.boxcode.specs.Burst.{hasBurst, burstFor}
-
-unfoldable pub mendable : Code → Cells → Bool
-mendable c s = hasBurst c (rowSyndrome c s) (columnSyndrome c s)
+use Rattle.boxcode.specs.Burst.{burstFor}
 
 unfoldable pub change : Code → Cells → Cells
 change c s = burstFor c (rowSyndrome c s) (columnSyndrome c s)

@@ -4,6 +4,7 @@
 --   foundReport        the five numbers: those of the burst's cells, or five zeros
 --   firstBurst c v s   the first burst by trial whose V sum is v and whose H sum is s, or Nothing
 --   IsBurst            a pattern number in a rectangle on the sheet has the cells of that burst
+--   BurstOrNone        an answer of the search is that burst, or there is none
 --   FoundFor c v s r   r has the number, the places and the five numbers of the first burst by trial, and its cells
 use Prim.Native.Nat.{ℕ, _+_, _*_, _^_, _≤_, _<_}
 use mathlib.Core.Path.{_≡_}

@@ -1,7 +1,6 @@
 // The rules of form: checks 1 to 7 of document 01.
 ghost use mathlib.Core.Path.{_≡_};
 ghost use Prim.Native.Nat.{_+_, _*_, _≤_, _<_};
-ghost use lib.ListN.{length};
 ghost use Rattle.finite.specs.Search.{least};
 ghost use Rattle.plan.specs.Header.{Small, Framed};
 ghost use Rattle.plan.specs.Bytes.{codeWith};

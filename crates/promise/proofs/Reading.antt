@@ -16,8 +16,9 @@ use Rattle.layout.proofs.Form.{bytes-equal}
 use Rattle.boxcode.specs.Code.{Code}
 use Rattle.boxcode.specs.Syndrome.{Cells, flip, SameCells}
 use Rattle.boxcode.specs.Check.{dataSize, dataOf}
-use Rattle.boxcode.specs.Reader.{mendable, change, mended, reportOf}
+use Rattle.boxcode.specs.Reader.{change, mended, reportOf}
 use Rattle.boxcode.proofs.Fill.{data-cells}
+use Rattle.boxcode.proofs.Reader.{mendable}
 use Rattle.boxcode.proofs.Theorems.{mendable-iff, change-is}
 use Rattle.boxcode.proofs.Report.{report-cells}
 use Rattle.plan.specs.Verdict.{accepted, refusal, _orElse_}

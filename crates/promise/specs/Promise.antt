@@ -9,7 +9,7 @@
 --   BelongsTo              both sums of the sheet are 0 (01: it belongs to the plan)
 --   dataIn                 the data that a sheet holds in its cells that are not check cells, packed
 --   BurstOn, empty         a burst (01: a blot): a set of cells, possibly empty; the empty one
---   corrupted                the sheet with the cells of a burst turned over and no others
+--   corrupted              the sheet with the cells of a burst turned over and no others
 --   FitsOn                 the sheet so turned over belongs to the plan (01: the blot fits)
 --   NoneFits, SomeFits     no burst fits the sheet; some burst does
 --   readAs                 a read that succeeds: number 0 and places 0, 0, a report, and both buffers after the call

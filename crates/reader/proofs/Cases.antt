@@ -8,7 +8,7 @@ use mathlib.Core.Bool.{true}
 use mathlib.Core.List.{List}
 use Prim.Native.Nat.{ℕ}
 use Rattle.layout.specs.Cells.{cellOf}
-use Rattle.boxcode.specs.Reader.{mendable}
+use Rattle.boxcode.proofs.Reader.{mendable}
 use Rattle.plan.specs.Bytes.{codeOf}
 use Rattle.plan.proofs.Sequence.{else-zero}
 use Rattle.buffers.specs.Buffers.{readChecks, Reads}

@@ -9,7 +9,7 @@
 --   accepted-with       an accepted plan, with its header
 --
 -- Assumes nothing.
-use mathlib.Core.Path.{_≡_, refl, sym, ap, _∙_}
+use mathlib.Core.Path.{_≡_, sym, ap, _∙_}
 use mathlib.Core.Bool.{xor}
 use mathlib.Core.List.{List}
 use Prim.Native.Nat.{ℕ}

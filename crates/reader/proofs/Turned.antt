@@ -17,7 +17,7 @@ use native.Mathlib.Decide.{ℕ-discrete, decLt}
 use native.Mathlib.Omega.{arith}
 use borrow.Author.Tests.{eq-eqb, ne-eqb, lt-ltb, le-ltb}
 use lib.Dec.{eqb, ltb}
-use lib.ListN.{length, length-set}
+use lib.ListN.{length}
 use lib.Arith.{digits-lt, digits-div, digits-mod}
 use Rattle.finite.specs.Search.{bit}
 use Rattle.finite.proofs.Truth.{Truth, is-true, is-false, true-or-false, xor-none, in-within}

@@ -17,8 +17,8 @@ use lib.ListN.{length}
 use Rattle.layout.specs.Cells.{rowBytes, sheetBytes, firstUnused, cellOf}
 use Rattle.boxcode.specs.Code.{Code, Formed}
 use Rattle.boxcode.specs.Check.{dataSize}
-use Rattle.boxcode.specs.Reader.{mendable, change, noReport}
-use Rattle.boxcode.proofs.Reader.{change-burst}
+use Rattle.boxcode.specs.Reader.{change, noReport}
+use Rattle.boxcode.proofs.Reader.{mendable, change-burst}
 use Rattle.boxcode.proofs.Report.{burst-report}
 use Rattle.plan.specs.declared.verdict.Verdict.{Verdict}
 use Rattle.plan.specs.Verdict.{refusal, _orElse_}

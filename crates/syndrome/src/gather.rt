@@ -1,6 +1,6 @@
 // Gathering the two sums: a byte, a row, the sheet.
 ghost use mathlib.Core.Path.{_≡_};
-ghost use Prim.Native.Nat.{ℕ, _+_, _-_, _*_, _%_, _≤_, _<_};
+ghost use Prim.Native.Nat.{ℕ, _+_, _-_, _*_, _%_, _<_};
 ghost use lib.ListN.{length};
 ghost use Rattle.layout.specs.Cells.{sheetBytes, cellOf};
 ghost use Rattle.plan.specs.Header.{Framed};

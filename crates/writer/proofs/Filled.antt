@@ -11,19 +11,18 @@
 use mathlib.Core.Path.{_≡_, refl, sym, ap, ap₂, _∙_}
 use mathlib.Core.Bool.{Bool, true, false, xor, _&&_}
 use mathlib.Core.List.{List}
-use Prim.Native.Nat.{ℕ, zero, suc, _+_, _/_, _%_, _^_, _≤_, _<_}
+use Prim.Native.Nat.{ℕ, zero, suc, _+_, _/_, _%_, _≤_, _<_}
 use native.Mathlib.Numerals.{add-one}
 use native.Mathlib.Decide.{ℕ-discrete, decLt}
 use native.Mathlib.Omega.{arith}
 use borrow.Author.Tests.{eqb-true, eq-eqb, ne-eqb, lt-ltb, le-ltb}
 use lib.Dec.{eqb, ltb}
-use lib.ListN.{length, getD, length-set}
+use lib.ListN.{length}
 use Rattle.finite.specs.Search.{bit, numberOf}
 use Rattle.finite.proofs.Truth.{clash, not-true, same-truth, and-true, and-false, xor-none, xor-light, both-equal, equal-both}
 use Rattle.finite.proofs.Digits.{bit-none, bit-number}
-use Rattle.gf2.specs.Xor.{_⊕_}
 use Rattle.gf2.specs.Sum.{chosenSum}
-use Rattle.layout.specs.Cells.{byteOf, cellOf, bytesOf, turned, turnedIf}
+use Rattle.layout.specs.Cells.{cellOf, bytesOf, turned, turnedIf}
 use Rattle.layout.proofs.Form.{bytes-cell, bytes-equal}
 use Rattle.layout.proofs.Turned.{turned-if-bytes, turned-if-length}
 use Rattle.boxcode.specs.Code.{Code, Formed, cellNumber, jointWeight, checkJoint}

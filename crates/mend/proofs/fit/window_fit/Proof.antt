@@ -1,9 +1,8 @@
 -- `mend::fit::window_fit` meets its contract: the solver for the window's entries answers for the window. Assumes nothing.
-use mathlib.Core.Path.{_≡_, sym}
-use Prim.Native.Nat.{ℕ, _*_, _≤_}
+use mathlib.Core.Path.{sym}
+use Prim.Native.Nat.{_*_, _≤_}
 use native.Mathlib.Omega.{arith}
 use borrow.Author.Needs.{needs}
-use mathlib.Core.List.{List}
 use Rattle.gf2.proofs.Answer.{solved-from}
 use Rattle.plan.specs.Bytes.{codeWith}
 use Rattle.mend.proofs.Turns.{small-burst, box-size}

@@ -1,7 +1,5 @@
 -- `writer::solving::check_digits` meets its contract: the joint entries of the check cells span every target. Assumes nothing.
-use mathlib.Core.Path.{_≡_, sym}
-use mathlib.Core.List.{List}
-use Prim.Native.Nat.{ℕ}
+use mathlib.Core.Path.{sym}
 use native.Mathlib.Omega.{arith}
 use lib.Seq.{length-take-le}
 use Rattle.gf2.proofs.Answer.{solved-from}
