@@ -22,15 +22,13 @@ test:
 
 lib: $(LIB)
 
-# The kit proves what has changed, and builds only what is proved.
+# The kit proves what has changed, and builds only what is proved; each crate is told as it is proved.
 $(LIB): $(SOURCES)
-	@mkdir -p build/logs
-	rt staticlib sheet > build/logs/lib.log 2>&1 || { tail -n 20 build/logs/lib.log; false; }
+	@scripts/prove staticlib sheet
 	@touch $@
 
 $(PROGRAM): $(SOURCES)
-	@mkdir -p build/logs
-	rt check sheetread > build/logs/program.log 2>&1 || { tail -n 20 build/logs/program.log; false; }
+	@scripts/prove check sheetread
 	@touch $@
 
 host: lib
