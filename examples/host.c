@@ -1,7 +1,7 @@
 /*
- * A whole host: makes a plan for sheets of 16 rows and 40 columns and blots of 3 by 3 cells, writes a drawing to a
- * sheet, puts a blot on it, reads it back, and shows each step. Cells inside the mended rectangle are shown as O (dark)
- * and o (light).
+ * A whole host: makes a plan for sheets of 16 rows and 40 columns and bursts of 3 by 3 cells, writes a drawing to a
+ * sheet, puts a burst on it, reads it back, and shows each step. Cells inside the mended rectangle are shown as O
+ * (dark) and o (light).
  *
  *     gcc -Iinclude examples/host.c target/staticlib/libsheet.a -o host && ./host
  */
@@ -11,7 +11,8 @@
 #include <string.h>
 
 enum { ROWS = 16, COLUMNS = 40, HEIGHT = 3, WIDTH = 3, RV = 22, RH = 14, CHECKS = RV + RH };
-enum { V_AT = 20, H_AT = V_AT + 4 * ROWS * WIDTH, LIST_AT = H_AT + 4 * COLUMNS * HEIGHT, PLAN_LEN = LIST_AT + 4 * CHECKS };
+enum { V_AT = SHEET_PLAN_HEADER_BYTES, H_AT = V_AT + 4 * ROWS * WIDTH };
+enum { LIST_AT = H_AT + 4 * COLUMNS * HEIGHT, PLAN_LEN = LIST_AT + 4 * CHECKS };
 enum { ROW_BYTES = (COLUMNS + 7) / 8, SHEET_LEN = ROWS * ROW_BYTES, DATA_LEN = (ROWS * COLUMNS - CHECKS + 7) / 8 };
 
 static const char *const drawing[ROWS] = {
@@ -25,7 +26,7 @@ static const char *const drawing[ROWS] = {
     ".#..#..#..#..#..#..#..#..#..#..#..#..#..", "..#..#..#..#..#..#..#..#..#..#..#..#..#.",
 };
 
-static uint8_t plan[PLAN_LEN], data[DATA_LEN], back[DATA_LEN], sheet[SHEET_LEN], film[SHEET_LEN];
+static uint8_t plan[PLAN_LEN], data[DATA_LEN], back[DATA_LEN], sheet[SHEET_LEN], scan[SHEET_LEN];
 static int is_check[ROWS][COLUMNS];
 
 static void put16(size_t at, unsigned n) {
@@ -111,31 +112,45 @@ static void show(const char *title, const uint8_t *s, uint64_t answer) {
     }
 }
 
+/* How many check cells each row has. They are its leftmost cells under this plan. */
+static void show_checks(void) {
+    printf("check cells at the left of each row:");
+    for (size_t i = 0; i < ROWS; i++) {
+        int count = 0;
+        for (size_t j = 0; j < COLUMNS; j++) count += is_check[i][j];
+        printf(" %d", count);
+    }
+    putchar('\n');
+}
+
 int main(void) {
     uint64_t answer;
     make_plan();
     answer = sheet_plan_test(plan, PLAN_LEN);
     if (sheet_answer_number(answer) != SHEET_OK) {
-        printf("plan turned back: %u at %u, %u\n", sheet_answer_number(answer), sheet_answer_p(answer), sheet_answer_q(answer));
+        printf("plan turned back: %u at %u, %u\n", sheet_answer_number(answer), sheet_answer_p(answer),
+               sheet_answer_q(answer));
         return 1;
     }
     draw();
     if (sheet_write(plan, PLAN_LEN, data, DATA_LEN, sheet, SHEET_LEN) != SHEET_OK) return 1;
-    show("written (the first row and a bit hold check cells):", sheet, 0);
+    show_checks();
+    show("\nwritten:", sheet, 0);
 
-    memcpy(film, sheet, SHEET_LEN);
-    turn(film, 5, 12);
-    turn(film, 5, 14);
-    turn(film, 6, 13);
-    turn(film, 7, 12);
-    show("\nscanned, with a blot:", film, 0);
+    memcpy(scan, sheet, SHEET_LEN);
+    turn(scan, 5, 12);
+    turn(scan, 5, 14);
+    turn(scan, 6, 13);
+    turn(scan, 7, 12);
+    show("\nscanned, with a burst:", scan, 0);
 
-    answer = sheet_read(plan, PLAN_LEN, film, SHEET_LEN, back, DATA_LEN);
+    answer = sheet_read(plan, PLAN_LEN, scan, SHEET_LEN, back, DATA_LEN);
     if (sheet_answer_number(answer) != SHEET_OK) return 1;
-    show("\nread:", film, answer);
-    printf("\n%u cells mended, at course %u, needle %u, height %u, width %u\n", sheet_answer_cells(answer),
-           sheet_answer_top(answer), sheet_answer_left(answer), sheet_answer_height(answer), sheet_answer_width(answer));
-    if (memcmp(film, sheet, SHEET_LEN) != 0 || memcmp(back, data, DATA_LEN) != 0) return 1;
+    show("\nread:", scan, answer);
+    printf("\n%u cells mended, at row %u, column %u, height %u, width %u\n", sheet_answer_cells(answer),
+           sheet_answer_top(answer), sheet_answer_left(answer), sheet_answer_height(answer),
+           sheet_answer_width(answer));
+    if (memcmp(scan, sheet, SHEET_LEN) != 0 || memcmp(back, data, DATA_LEN) != 0) return 1;
     printf("the sheet and its data are as written\n");
     return 0;
 }

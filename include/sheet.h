@@ -1,5 +1,5 @@
 /*
- * sheet.h: pattern sheets that survive one blot.
+ * sheet.h: pattern sheets that survive one burst.
  *
  * Three calls on byte buffers: test a plan, write a sheet, read a sheet. Each answers one 64-bit number, which the
  * functions below take apart. The bytes of plans, sheets and data are described in docs/FORMAT.md.
@@ -7,17 +7,30 @@
  * Promise, proved for every accepted plan (docs/PROMISE.md): a sheet that sheet_write made, with any cells of one
  * rectangle of the plan's b1 rows and b2 columns turned over, is read back by sheet_read as it was written.
  *
+ * Words. This header has one word for each thing; the knitter's word stands after it:
+ *     sheet     the film: n1 rows by n2 columns of dark and light cells
+ *     row       a course
+ *     column    a needle
+ *     burst     a blot: cells turned over inside one rectangle of b1 rows and b2 columns; it may be empty
+ *     window    b1 consecutive rows                    strip    b2 consecutive columns
+ *     plan      the tables under which sheets are written and read
+ *     accepted  of a plan: sheet_plan_test answers SHEET_OK
+ *     sums      of a sheet: the exclusive-or of the V entries, and that of the H entries, of its dark cells
+ *
+ * The machine. libsheet.a is for x86-64 Linux, 64-bit: the C calling convention of System V, and a size_t of 8 bytes,
+ * which is checked below. Of the C library it needs memcpy and memset, and nothing else.
+ *
  * What a caller owes: each length is the true length of its buffer, and a buffer that a call writes overlaps no other
- * buffer of that call. No pointer is null, also where its length is 0. Nothing else: any bytes may be handed in. The calls
- * use no heap and no globals, keep no pointer, and may run in several threads at once. The plan test takes less than 64 KB
- * of stack, writing and reading less than 96 KB.
+ * buffer of that call. Where a length is 0, its pointer may be anything, null too: it is not followed. Nothing else is
+ * owed: any bytes may be handed in. The calls use no heap and no globals, keep no pointer, and may run in several
+ * threads at once. The stack they need is told below.
  *
  * Every call makes all its checks before it writes. A call that turns something back changes no byte of any buffer.
  *
  * The smallest use (see examples/host.c for a whole one):
  *
- *     uint64_t a = sheet_read(plan, plan_len, film, film_len, data, data_len);
- *     if (sheet_answer_number(a) != SHEET_OK) ...   the film is turned back, with a number and two places
+ *     uint64_t a = sheet_read(plan, plan_len, sheet, sheet_len, data, data_len);
+ *     if (sheet_answer_number(a) != SHEET_OK) ...   the sheet is turned back, with a number and two places
  */
 #ifndef SHEET_H
 #define SHEET_H
@@ -29,23 +42,32 @@
 extern "C" {
 #endif
 
+/* A length is passed in one 64-bit register. Where this line does not compile, the machine is another. */
+typedef char sheet_size_t_has_8_bytes[sizeof(size_t) == 8 ? 1 : -1];
+
+enum {
+    SHEET_PLAN_HEADER_BYTES = 20,     /* the header of a plan: ten numbers of 16 bits */
+    SHEET_PLAN_TEST_STACK = 65536,    /* bytes of stack that are enough for sheet_plan_test */
+    SHEET_WRITE_READ_STACK = 98304    /* bytes of stack that are enough for sheet_write, and for sheet_read */
+};
+
 /* The numbers of an answer, and what its places p and q tell. */
 enum {
     SHEET_OK = 0,             /* taken; places 0, 0 */
-    SHEET_PLAN_SHORT = 1,     /* the plan has under 20 bytes; 0, 0 */
+    SHEET_PLAN_SHORT = 1,     /* the plan is shorter than its header; 0, 0 */
     SHEET_PLAN_BURST = 2,     /* b1 or b2 is 0 or over 4; 0, 0 */
     SHEET_PLAN_SIZE = 3,      /* n1 < b1, n1 > 512, n2 < b2 or n2 > 698; 0, 0 */
     SHEET_PLAN_WIDTH = 4,     /* rv or rh is 0 or over 32; 0, 0 */
     SHEET_PLAN_LENGTH = 5,    /* an offset, the length field or the true length differs from the rule; 0, 0 */
     SHEET_PLAN_ENTRY = 6,     /* a table entry is too large; 0 for V or 1 for H, index */
     SHEET_PLAN_CHECK = 7,     /* a check cell is off the sheet or out of order; index, 0 */
-    SHEET_PLAN_ROWS = 8,      /* the condition on courses fails; the two window starts */
-    SHEET_PLAN_COLUMNS = 9,   /* the condition on needles fails; the two strip starts */
+    SHEET_PLAN_ROWS = 8,      /* the condition on rows fails; the two window starts */
+    SHEET_PLAN_COLUMNS = 9,   /* the condition on columns fails; the two strip starts */
     SHEET_PLAN_DEPENDENT = 10, /* a check cell depends on earlier ones; index, 0 */
     SHEET_SHEET_LENGTH = 11,  /* the sheet buffer has another length; 0, 0 */
     SHEET_DATA_LENGTH = 12,   /* the data buffer has another length; 0, 0 */
     SHEET_UNUSED_BIT = 13,    /* an unused bit is 1, of the sheet read or the data written; byte index, 0 */
-    SHEET_NOT_MENDABLE = 14   /* no single blot explains the sheet; 0, 0 */
+    SHEET_NOT_MENDABLE = 14   /* no single burst brings both sums to 0; 0, 0 */
 };
 
 /*
@@ -64,7 +86,7 @@ uint64_t sheet_write(const uint8_t *plan, size_t plan_len, const uint8_t *data, 
 /*
  * Reads a sheet: checks 1 to 14, then mends the sheet in place and writes every byte of its data, whatever that held.
  * The answer tells how many cells were turned over and the smallest rectangle that holds them: five zeros if none were.
- * SHEET_NOT_MENDABLE is given exactly where no single blot, the empty one included, brings both sums to 0.
+ * SHEET_NOT_MENDABLE is given exactly where no single burst, the empty one included, brings both sums to 0.
  */
 uint64_t sheet_read(const uint8_t *plan, size_t plan_len, uint8_t *sheet, size_t sheet_len, uint8_t *data,
                     size_t data_len);
@@ -81,7 +103,7 @@ static inline unsigned sheet_answer_width(uint64_t answer) { return (unsigned)((
 
 /* A 16-bit number of a plan's header, 0 where the plan has none. */
 static inline size_t sheet_plan_field(const uint8_t *plan, size_t plan_len, size_t at) {
-    return plan_len < 20 ? 0 : (size_t)plan[at] + 256u * (size_t)plan[at + 1];
+    return plan_len < SHEET_PLAN_HEADER_BYTES ? 0 : (size_t)plan[at] + 256u * (size_t)plan[at + 1];
 }
 
 /* The sizes that an accepted plan asks for: bytes of a sheet, and bytes of its data. Any bytes may be handed in. */

@@ -1,0 +1,72 @@
+/*
+ * Null where the length is 0: every call, each buffer in turn and all at once. Plan N holds no data, so that calls with
+ * null data succeed under it. A host that asks malloc for that data's bytes may get null.
+ */
+#include "sheet.h"
+
+#include <stdio.h>
+#include <stdlib.h>
+
+/* One row of two cells, both check cells: k is 0. */
+static const uint8_t plan_n[] = {
+    1, 0, 2, 0, 1, 0, 1, 0, 1, 0, 1, 0, 20, 0, 24, 0, 32, 0, 40, 0, /* header */
+    1, 0, 0, 0,                                                     /* V */
+    0, 0, 0, 0, 1, 0, 0, 0,                                         /* H */
+    0, 0, 0, 0, 0, 0, 1, 0,                                         /* check list */
+};
+
+/* Plan S of document 01: three rows of three cells, k is 5. */
+static const uint8_t plan_s[] = {
+    3, 0, 3, 0, 1, 0, 1, 0, 2, 0, 2, 0, 20, 0, 32, 0, 44, 0, 60, 0, /* header */
+    1, 0, 0, 0, 2, 0, 0, 0, 3, 0, 0, 0,                             /* V */
+    0, 0, 0, 0, 1, 0, 0, 0, 2, 0, 0, 0,                             /* H */
+    0, 0, 0, 0, 0, 0, 1, 0, 0, 0, 2, 0, 1, 0, 0, 0,                 /* check list */
+};
+
+static int failed = 0;
+
+static void expect(const char *what, int good) {
+    if (good) return;
+    printf("FAILED: %s\n", what);
+    failed = 1;
+}
+
+static int answers(uint64_t answer, unsigned number) { return answer == number; }
+
+int main(void) {
+    uint8_t sheet[3] = {0xaa, 0xaa, 0xaa}, data[1] = {0};
+    uint8_t *none = malloc(sheet_plan_data_bytes(plan_n, sizeof plan_n));
+    uint64_t answer;
+
+    expect("sizes of no plan", sheet_plan_sheet_bytes(NULL, 0) == 0 && sheet_plan_data_bytes(NULL, 0) == 0);
+    expect("plan N has no data", sheet_plan_data_bytes(plan_n, sizeof plan_n) == 0);
+
+    expect("test, no plan", answers(sheet_plan_test(NULL, 0), SHEET_PLAN_SHORT));
+    expect("test, plan N", answers(sheet_plan_test(plan_n, sizeof plan_n), SHEET_OK));
+
+    expect("write, no plan", answers(sheet_write(NULL, 0, data, 1, sheet, 3), SHEET_PLAN_SHORT));
+    expect("write, nothing", answers(sheet_write(NULL, 0, NULL, 0, NULL, 0), SHEET_PLAN_SHORT));
+    expect("write, no sheet", answers(sheet_write(plan_s, sizeof plan_s, data, 1, NULL, 0), SHEET_SHEET_LENGTH));
+    expect("write, no data", answers(sheet_write(plan_s, sizeof plan_s, NULL, 0, sheet, 3), SHEET_DATA_LENGTH));
+    expect("write, neither", answers(sheet_write(plan_n, sizeof plan_n, NULL, 0, NULL, 0), SHEET_SHEET_LENGTH));
+    expect("a refusal changes nothing", sheet[0] == 0xaa && sheet[1] == 0xaa && sheet[2] == 0xaa);
+    expect("write, k = 0", answers(sheet_write(plan_n, sizeof plan_n, NULL, 0, sheet, 1), SHEET_OK));
+    expect("the sheet is written", sheet[0] == 0 && sheet[1] == 0xaa);
+
+    expect("read, no plan", answers(sheet_read(NULL, 0, sheet, 1, data, 1), SHEET_PLAN_SHORT));
+    expect("read, nothing", answers(sheet_read(NULL, 0, NULL, 0, NULL, 0), SHEET_PLAN_SHORT));
+    expect("read, no sheet", answers(sheet_read(plan_s, sizeof plan_s, NULL, 0, data, 1), SHEET_SHEET_LENGTH));
+    expect("read, no data", answers(sheet_read(plan_s, sizeof plan_s, sheet, 3, NULL, 0), SHEET_DATA_LENGTH));
+    expect("read, neither", answers(sheet_read(plan_n, sizeof plan_n, NULL, 0, NULL, 0), SHEET_SHEET_LENGTH));
+    expect("read, k = 0, clean", answers(sheet_read(plan_n, sizeof plan_n, sheet, 1, NULL, 0), SHEET_OK));
+    sheet[0] = 2;
+    answer = sheet_read(plan_n, sizeof plan_n, sheet, 1, NULL, 0);
+    expect("read, k = 0, one cell", sheet_answer_number(answer) == SHEET_OK && sheet_answer_cells(answer) == 1 &&
+                                        sheet_answer_top(answer) == 0 && sheet_answer_left(answer) == 1);
+    expect("the sheet is mended", sheet[0] == 0 && sheet[1] == 0xaa);
+
+    expect("write, malloc(0)", answers(sheet_write(plan_n, sizeof plan_n, none, 0, sheet, 1), SHEET_OK));
+    expect("read, malloc(0)", answers(sheet_read(plan_n, sizeof plan_n, sheet, 1, none, 0), SHEET_OK));
+    free(none);
+    return failed;
+}
