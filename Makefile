@@ -21,6 +21,7 @@ test:
 	@tests/run
 
 lib: $(LIB)
+	@:
 
 # The kit proves what has changed, and builds only what is proved; each crate is told as it is proved.
 $(LIB): $(SOURCES)

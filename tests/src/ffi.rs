@@ -1,5 +1,7 @@
 //! The calls of libsheet.a: bare, and on guarded buffers.
 
+use std::ptr;
+
 use crate::answer::Answer;
 use crate::rng::Rng;
 
@@ -13,6 +15,8 @@ pub struct Archive {
     plan_test: PlanTest,
     write: Write,
     read: Read,
+    /// Hand over null for a buffer of length 0.
+    null: bool,
 }
 
 /// Names the three symbols of an archive.
@@ -32,7 +36,8 @@ macro_rules! archive {
             ) -> u64;
         }
         $(#[$about])*
-        pub const $name: Archive = Archive { plan_test: $plan_test, write: $write, read: $read };
+        pub const $name: Archive =
+            Archive { plan_test: $plan_test, write: $write, read: $read, null: false };
     };
 }
 
@@ -49,18 +54,31 @@ archive! {
 
 #[rustfmt::skip]
 impl Archive {
+    /// The same calls, with null for a buffer of length 0.
+    pub const fn with_null(self) -> Archive {
+        Archive { null: true, ..self }
+    }
+
+    fn at(&self, buffer: &[u8]) -> *const u8 {
+        if self.null && buffer.is_empty() { ptr::null() } else { buffer.as_ptr() }
+    }
+
+    fn at_mut(&self, buffer: &mut [u8]) -> *mut u8 {
+        if self.null && buffer.is_empty() { ptr::null_mut() } else { buffer.as_mut_ptr() }
+    }
+
     pub fn plan_test(&self, plan: &[u8]) -> u64 {
-        // SAFETY: a slice is readable for its length.
-        unsafe { (self.plan_test)(plan.as_ptr(), plan.len()) }
+        // SAFETY: a slice is readable for its length; where that is 0, any pointer may be given.
+        unsafe { (self.plan_test)(self.at(plan), plan.len()) }
     }
 
     pub fn write(&self, plan: &[u8], data: &[u8], sheet: &mut [u8]) -> u64 {
         // SAFETY: slices are readable, and the mutable one writable and apart from the others.
         unsafe {
             (self.write)(
-                plan.as_ptr(), plan.len(),
-                data.as_ptr(), data.len(),
-                sheet.as_mut_ptr(), sheet.len(),
+                self.at(plan), plan.len(),
+                self.at(data), data.len(),
+                self.at_mut(sheet), sheet.len(),
             )
         }
     }
@@ -69,16 +87,17 @@ impl Archive {
         // SAFETY: as for `write`.
         unsafe {
             (self.read)(
-                plan.as_ptr(), plan.len(),
-                sheet.as_mut_ptr(), sheet.len(),
-                data.as_mut_ptr(), data.len(),
+                self.at(plan), plan.len(),
+                self.at_mut(sheet), sheet.len(),
+                self.at_mut(data), data.len(),
             )
         }
     }
 }
 
 /// The calls on guarded buffers: each buffer lies amid random bytes at a random alignment, and
-/// after the call no byte may have changed but those that the call may write.
+/// after the call no byte may have changed but those that the call may write. An empty buffer is
+/// handed over as null in about half of the calls.
 pub struct Library {
     rng: Rng,
 }
@@ -89,9 +108,17 @@ impl Library {
         Library { rng: Rng::new(seed) }
     }
 
+    fn archive(&mut self) -> Archive {
+        if self.rng.one_in(2) {
+            SHEET.with_null()
+        } else {
+            SHEET
+        }
+    }
+
     pub fn plan_test(&mut self, plan: &[u8]) -> u64 {
         let plan = Guarded::new("plan", plan, &mut self.rng);
-        let answer = SHEET.plan_test(plan.content());
+        let answer = self.archive().plan_test(plan.content());
         plan.assert_unchanged();
         answer
     }
@@ -100,7 +127,7 @@ impl Library {
         let plan = Guarded::new("plan", plan, &mut self.rng);
         let data = Guarded::new("data", data, &mut self.rng);
         let mut target = Guarded::new("sheet", sheet, &mut self.rng);
-        let answer = SHEET.write(plan.content(), data.content(), target.content_mut());
+        let answer = self.archive().write(plan.content(), data.content(), target.content_mut());
         plan.assert_unchanged();
         data.assert_unchanged();
         target.hand_back(answer, sheet);
@@ -111,7 +138,7 @@ impl Library {
         let plan = Guarded::new("plan", plan, &mut self.rng);
         let mut scan = Guarded::new("sheet", sheet, &mut self.rng);
         let mut target = Guarded::new("data", data, &mut self.rng);
-        let answer = SHEET.read(plan.content(), scan.content_mut(), target.content_mut());
+        let answer = self.archive().read(plan.content(), scan.content_mut(), target.content_mut());
         plan.assert_unchanged();
         scan.hand_back(answer, sheet);
         target.hand_back(answer, data);

@@ -9,6 +9,7 @@ pub mod cases;
 pub mod damage;
 #[cfg(feature = "linked")]
 pub mod ffi;
+pub mod header;
 pub mod line;
 pub mod make;
 pub mod model;

@@ -35,8 +35,13 @@ pub const ROWS_4X4: usize = 219;
 
 /// z^k modulo the polynomial, for k from 0 (request a of 02).
 pub fn powers(count: usize, modulus: Polynomial) -> Vec<u32> {
+    powers_from(1, count, modulus)
+}
+
+/// z^k times the first entry modulo the polynomial, for k from 0.
+pub fn powers_from(first: u32, count: usize, modulus: Polynomial) -> Vec<u32> {
     let full = 1 << modulus.degree | u64::from(modulus.low);
-    let mut entry = 1u64;
+    let mut entry = u64::from(first);
     let mut entries = Vec::with_capacity(count);
     for _ in 0..count {
         entries.push(entry as u32);
@@ -89,7 +94,7 @@ pub enum CellOrder {
 impl Plan {
     /// Take check cells in the given order, each if its joint entry is no exclusive-or of those
     /// taken, until there are rv + rh; then list them in rising order. None if there are too few.
-    fn with_checks(mut self, order: CellOrder, rng: &mut Rng) -> Option<Plan> {
+    pub fn with_checks(mut self, order: CellOrder, rng: &mut Rng) -> Option<Plan> {
         let (n1, n2) = (self.n1 as u16, self.n2 as u16);
         let mut cells: Vec<_> = (0..n1).flat_map(|i| (0..n2).map(move |j| (i, j))).collect();
         if let CellOrder::Scattered = order {
@@ -147,6 +152,12 @@ pub fn largest_4x4(order: CellOrder, rng: &mut Rng) -> Plan {
     square(4, v, h, order, rng)
 }
 
+/// The accepted plan of one row of two cells, both check cells: it holds no data.
+pub fn no_data() -> Plan {
+    let (v, h) = (vec![1], vec![0, 1]);
+    Plan { n1: 1, n2: 2, b1: 1, b2: 1, rv: 1, rh: 1, v, h, checks: vec![(0, 0), (0, 1)] }
+}
+
 /// Every size of burst that check 2 lets pass.
 pub fn burst_sizes() -> impl Iterator<Item = (usize, usize)> {
     (1..=4).flat_map(|b1| (1..=4).map(move |b2| (b1, b2)))
@@ -169,13 +180,8 @@ pub fn accepted(rng: &mut Rng, b1: usize, b2: usize, more: usize) -> Plan {
 fn random_shape(rng: &mut Rng, b1: usize, b2: usize, more: usize) -> Option<Plan> {
     let mut size = |b: usize| if rng.one_in(6) { b } else { rng.within(b, b + more) };
     let (n1, n2) = (size(b1), size(b2));
-    // As many entries as two windows, and as many members as two strips, can have.
-    let least_rv = (2 * b1).min(n1) * b2;
-    let least_rh = (b2.min(n2 - b2) * b1).max(1);
-    // The most that check cells can span. Cells with the same two remainders, i modulo b1 and
-    // j modulo b2, share their entries with no others, and span at most one dimension less than
-    // they have entries in the two tables: b1 × b2 times in all.
-    let rank = n1 * b2 + n2 * b1 - b1 * b2;
+    let (least_rv, least_rh) = least_widths(n1, n2, b1, b2);
+    let rank = most_checks(n1, n2, b1, b2);
     let most_rv = 32.min(n1 * b2).min(rank.checked_sub(least_rh)?);
     if most_rv < least_rv {
         return None;
@@ -185,6 +191,19 @@ fn random_shape(rng: &mut Rng, b1: usize, b2: usize, more: usize) -> Option<Plan
     let no_data = n1 * n2 == rank && rank - rv == most_rh && rng.one_in(3);
     let rh = if no_data { most_rh } else { width(rng, least_rh, most_rh) };
     Some(Plan { n1, n2, b1, b2, rv, rh, v: Vec::new(), h: Vec::new(), checks: Vec::new() })
+}
+
+/// The least rv and rh under which a plan can be accepted: as many as two windows have entries, and
+/// two strips members.
+pub fn least_widths(n1: usize, n2: usize, b1: usize, b2: usize) -> (usize, usize) {
+    ((2 * b1).min(n1) * b2, (b2.min(n2 - b2) * b1).max(1))
+}
+
+/// The most that check cells can span. Cells with the same two remainders, i modulo b1 and j modulo
+/// b2, share their entries with no others, and span at most one dimension less than they have
+/// entries in the two tables: b1 × b2 times in all.
+pub fn most_checks(n1: usize, n2: usize, b1: usize, b2: usize) -> usize {
+    n1 * b2 + n2 * b1 - b1 * b2
 }
 
 /// A width from `least` to `most`: mostly near the least, one time in six the most.

@@ -7,7 +7,7 @@ use sheet_tests::answer::Answer;
 use sheet_tests::cases::{plan_cases, plan_s, plan_t, read_cases, write_cases};
 use sheet_tests::damage::damaged;
 use sheet_tests::line::{line, INPUT_LIMIT};
-use sheet_tests::make::{accepted, burst_sizes, largest_4x4, powers_3x3, CellOrder};
+use sheet_tests::make::{accepted, burst_sizes, largest_4x4, no_data, powers_3x3, CellOrder};
 use sheet_tests::model;
 use sheet_tests::plan::Plan;
 use sheet_tests::rng::Rng;
@@ -60,11 +60,7 @@ fn printed_lines() {
     // A length field below 20: the plan is 20 bytes all the same.
     assert_eq!(line(&[[0; 20].as_slice(), &[1]].concat()), "no 2 0 0");
     assert_eq!(line(&with(&vec![0; INPUT_LIMIT])), "no 11 0 0");
-    // No data at all: one row of two cells, both check cells.
-    let (v, h) = (vec![1], vec![0, 1]);
-    let none =
-        Plan { n1: 1, n2: 2, b1: 1, b2: 1, rv: 1, rh: 1, v, h, checks: vec![(0, 0), (0, 1)] };
-    assert_eq!(line(&[none.encode(), vec![0x02]].concat()), "ok 1 0 1 1 1");
+    assert_eq!(line(&[no_data().encode(), vec![0x02]].concat()), "ok 1 0 1 1 1");
     // More than one byte of data stands in one field.
     let plan = powers_3x3(9, 9, CellOrder::Sheet, &mut Rng::new(1));
     assert_eq!(line(&[plan.encode(), vec![0; 18]].concat()), "ok 0 0 0 0 0 000000000000");

@@ -1,11 +1,9 @@
 //! sheet_plan_test beside the model: number and places, bit for bit.
 
-use std::thread;
-
 use sheet_tests::answer::Answer;
 use sheet_tests::cases::{plan_cases, plan_s, plan_t};
 use sheet_tests::damage::damaged;
-use sheet_tests::ffi::{Library, SHEET};
+use sheet_tests::ffi::Library;
 use sheet_tests::make::{
     accepted, burst_sizes, largest_4x4, powers_1x1, powers_3x3, wide_3x3, CellOrder,
 };
@@ -231,18 +229,4 @@ fn late_refusals() {
     let mut damaged = plan.clone();
     damaged.checks[others.len()] = (plan.n1 as u16 - 1, column as u16);
     expect(damaged, Answer::refusal(10, others.len(), 0));
-}
-
-/// A call gets along with a small stack: 64 KB for it and for the thread it runs in.
-#[test]
-fn small_stack() {
-    let mut rng = Rng::new(13);
-    for plan in
-        [powers_3x3(512, 698, CellOrder::Sheet, &mut rng), largest_4x4(CellOrder::Sheet, &mut rng)]
-    {
-        let bytes = plan.encode();
-        let thread = thread::Builder::new().stack_size(64 * 1024);
-        let call = thread.spawn(move || SHEET.plan_test(&bytes)).expect("a thread can be started");
-        assert_eq!(call.join().expect("the call returns"), 0);
-    }
 }

@@ -1,0 +1,107 @@
+//! What include/sheet.h tells a caller besides the answers: the stack that is enough, and null where
+//! a length is 0.
+
+use std::thread;
+
+use sheet_tests::answer::Answer;
+use sheet_tests::cases::{plan_s, plan_t};
+use sheet_tests::ffi::SHEET;
+use sheet_tests::header::constant;
+use sheet_tests::make::{largest_4x4, no_data, powers_1x1, powers_3x3, CellOrder};
+use sheet_tests::model;
+use sheet_tests::plan::{Plan, HEADER_LEN};
+use sheet_tests::rng::Rng;
+use sheet_tests::scans::{burst, random_data, turned};
+
+#[test]
+fn length_of_a_plans_header() {
+    assert_eq!(constant("SHEET_PLAN_HEADER_BYTES"), HEADER_LEN);
+}
+
+/// Make a call in a thread that has this much stack in all, for the call and for itself.
+fn with_stack<T: Send + 'static>(bytes: usize, call: impl FnOnce() -> T + Send + 'static) -> T {
+    let thread = thread::Builder::new().stack_size(bytes);
+    let call = thread.spawn(call).expect("a thread can be started");
+    call.join().expect("the call returns")
+}
+
+/// Plans of full size.
+fn large_plans(rng: &mut Rng) -> [Plan; 3] {
+    [
+        powers_1x1(CellOrder::Scattered, rng),
+        powers_3x3(512, 698, CellOrder::Sheet, rng),
+        largest_4x4(CellOrder::Sheet, rng),
+    ]
+}
+
+#[test]
+fn stack_of_the_plan_test() {
+    let enough = constant("SHEET_PLAN_TEST_STACK");
+    for plan in large_plans(&mut Rng::new(1)) {
+        let bytes = plan.encode();
+        assert_eq!(with_stack(enough, move || SHEET.plan_test(&bytes)), 0);
+    }
+}
+
+/// The scan has a full burst in the last corner, where a search in sheet order comes last.
+#[test]
+fn stack_of_writing_and_reading() {
+    let enough = constant("SHEET_WRITE_READ_STACK");
+    let mut rng = Rng::new(2);
+    for plan in large_plans(&mut rng) {
+        let bytes = plan.encode();
+        let data = random_data(&plan, &mut rng);
+        let written = model::write_sheet(&plan, &data);
+
+        let (bytes_there, data_there, mut sheet) = (bytes.clone(), data.clone(), written.clone());
+        sheet.fill(0xff);
+        let (answer, sheet) =
+            with_stack(enough, move || (SHEET.write(&bytes_there, &data_there, &mut sheet), sheet));
+        assert!(answer == 0 && sheet == written);
+
+        let cells = burst(&plan, plan.n1 - plan.b1, plan.n2 - plan.b2, u32::MAX);
+        let mut scan = turned(&plan, &written, &cells);
+        let mut into = vec![0xff; data.len()];
+        let (answer, scan, into) =
+            with_stack(enough, move || (SHEET.read(&bytes, &mut scan, &mut into), scan, into));
+        assert_eq!(answer, model::smallest_rectangle(&cells).pack());
+        assert!(scan == written && into == data);
+    }
+}
+
+/// Each buffer empty and null, in each combination, under plans with data and without.
+#[test]
+fn null_where_the_length_is_0() {
+    let null = SHEET.with_null();
+    let mut taken = 0;
+    for plan in [plan_s(), plan_t(), no_data()] {
+        for empty in 0..8 {
+            let kept = |buffer: usize, bytes: Vec<u8>| {
+                if empty >> buffer & 1 == 1 {
+                    vec![]
+                } else {
+                    bytes
+                }
+            };
+            let bytes = kept(0, plan.encode());
+            let data = kept(1, vec![0; plan.data_len()]);
+            let sheet = kept(2, vec![0; plan.sheet_len()]);
+
+            let (mut wrote, mut expected) = (sheet.clone(), sheet.clone());
+            let answer = null.write(&bytes, &data, &mut wrote);
+            assert_eq!(answer, model::write(&bytes, &data, &mut expected).pack());
+            assert_eq!(wrote, expected);
+
+            let (mut scan, mut into) = (sheet.clone(), data.clone());
+            let (mut expected, mut expected_into) = (sheet.clone(), data.clone());
+            let told = model::read(&bytes, &mut expected, &mut expected_into);
+            assert_eq!(null.read(&bytes, &mut scan, &mut into), told.pack());
+            assert_eq!((scan, into), (expected, expected_into));
+
+            assert_eq!(null.plan_test(&bytes), model::test_plan(&bytes).pack());
+            taken += usize::from(answer == 0 && data.is_empty());
+        }
+    }
+    assert!(taken > 0, "a call with null data succeeds where there is no data");
+    assert_eq!(Answer::unpack(null.plan_test(&[])), Answer::refusal(1, 0, 0));
+}
