@@ -139,6 +139,17 @@ pub fn powers_3x3(n1: usize, n2: usize, order: CellOrder, rng: &mut Rng) -> Plan
     square(3, v, h, order, rng)
 }
 
+/// The same with the entries of each row, and of each column, in reversed order, and check cells
+/// chosen anew. Windows have the same entries and strips the same members, so that the plan is
+/// accepted too; but no entry is z times the one before.
+pub fn reversed_3x3(n1: usize, n2: usize, order: CellOrder, rng: &mut Rng) -> Plan {
+    let reversed =
+        |table: Vec<u32>| table.chunks(3).flat_map(|of| of.iter().rev()).copied().collect();
+    let v = (V_3X3.degree, reversed(powers(3 * n1, V_3X3)));
+    let h = (H_3X3.degree, reversed(powers(3 * n2, H_3X3)));
+    square(3, v, h, order, rng)
+}
+
 /// The accepted plan with 3 × 3 bursts at full size and the widest entries. One altered entry
 /// makes few pairs dependent here.
 pub fn wide_3x3(order: CellOrder, rng: &mut Rng) -> Plan {

@@ -7,7 +7,9 @@ use sheet_tests::answer::Answer;
 use sheet_tests::cases::{plan_cases, plan_s, plan_t, read_cases, write_cases};
 use sheet_tests::damage::damaged;
 use sheet_tests::line::{line, INPUT_LIMIT};
-use sheet_tests::make::{accepted, burst_sizes, largest_4x4, no_data, powers_3x3, CellOrder};
+use sheet_tests::make::{
+    accepted, burst_sizes, largest_4x4, no_data, powers_3x3, reversed_3x3, CellOrder,
+};
 use sheet_tests::model;
 use sheet_tests::plan::Plan;
 use sheet_tests::rng::Rng;
@@ -246,6 +248,7 @@ fn full_size_plans_are_accepted() {
     let mut rng = Rng::new(10);
     for plan in [
         powers_3x3(512, 698, CellOrder::Sheet, &mut rng),
+        reversed_3x3(512, 698, CellOrder::Scattered, &mut rng),
         largest_4x4(CellOrder::Scattered, &mut rng),
     ] {
         let bytes = plan.encode();

@@ -5,7 +5,7 @@ use sheet_tests::cases::{plan_cases, plan_s, plan_t};
 use sheet_tests::damage::damaged;
 use sheet_tests::ffi::Library;
 use sheet_tests::make::{
-    accepted, burst_sizes, largest_4x4, powers_1x1, powers_3x3, wide_3x3, CellOrder,
+    accepted, burst_sizes, largest_4x4, powers_1x1, powers_3x3, reversed_3x3, wide_3x3, CellOrder,
 };
 use sheet_tests::model;
 use sheet_tests::plan::{field, set_header_field, Plan, HEADER_LEN};
@@ -181,6 +181,7 @@ fn full_size() {
         for plan in [
             powers_1x1(order, &mut rng),
             powers_3x3(512, 698, order, &mut rng),
+            reversed_3x3(512, 698, order, &mut rng),
             largest_4x4(order, &mut rng),
         ] {
             assert_eq!(compared(&mut library, &plan.encode()), 0);

@@ -1,13 +1,17 @@
 //! `cargo run --release --bin bench`: the library's speed beside Rust, and with the feature `before`
-//! beside the library of an earlier commit, on the same inputs in the same run. Times are of this thread's own work, not of its waiting for a processor, and the
-//! contenders take turns, so that a busy machine slows all of them alike.
+//! beside the library of an earlier commit, on the same inputs in the same run. Times are of this
+//! thread's own work, not of its waiting for a processor, and the contenders take turns, so that a
+//! busy machine slows all of them alike.
+//!
+//! Tables are of two kinds: of powers, each entry z times the one before, which the plan test may
+//! know by their look; and of the same entries in another order, where it has to test all pairs.
 
 use std::cell::RefCell;
 use std::hint::black_box;
 use std::time::Duration;
 
 use sheet_tests::ffi::{Archive, SHEET};
-use sheet_tests::make::{powers_1x1, powers_3x3, CellOrder};
+use sheet_tests::make::{powers_1x1, powers_3x3, reversed_3x3, CellOrder};
 use sheet_tests::model::write_sheet;
 use sheet_tests::plan::Plan;
 use sheet_tests::rng::Rng;
@@ -16,7 +20,46 @@ use sheet_tests::yardstick::{best_plan_test, plain_plan_test, read_accepted, wri
 
 const SIZES: [(usize, usize); 3] = [(64, 64), (256, 256), (512, 698)];
 
+/// A plan to time, and the kind of its tables.
+struct Subject {
+    plan: Plan,
+    tables: &'static str,
+}
+
+/// For each size a plan of each kind of tables, with 3 x 3 bursts.
+fn subjects(rng: &mut Rng) -> Vec<Subject> {
+    let mut subjects = Vec::new();
+    for (n1, n2) in SIZES {
+        let order = CellOrder::Scattered;
+        subjects.push(Subject { plan: powers_3x3(n1, n2, order, rng), tables: "powers" });
+        subjects.push(Subject { plan: reversed_3x3(n1, n2, order, rng), tables: "others" });
+    }
+    subjects
+}
+
+/// The same and one with bursts of one cell, where the plan test is short.
+fn subjects_and_single(rng: &mut Rng) -> Vec<Subject> {
+    let mut subjects = subjects(rng);
+    subjects.push(Subject { plan: powers_1x1(CellOrder::Scattered, rng), tables: "powers" });
+    subjects
+}
+
+impl Subject {
+    fn print(&self) {
+        let Plan { n1, n2, b1, b2, .. } = self.plan;
+        print!("{n1:4} x {n2:<4} {b1} x {b2}  {:6}", self.tables);
+    }
+}
+
+/// Heads the columns that `Subject::print` fills.
+const SUBJECT: &str = "     size   burst  tables";
+
 fn main() {
+    println!(
+        "Tables: powers of z (powers), or the same with each row and column reversed (others)."
+    );
+    println!("Best Rust: the best scalar Rust that tests all pairs.");
+    println!();
     plan_test();
     write_and_read();
     #[cfg(feature = "before")]
@@ -24,18 +67,19 @@ fn main() {
 }
 
 fn plan_test() {
-    println!("Test of an accepted plan, 3 x 3 bursts, tables of powers; medians in microseconds");
-    println!("     size   library  plain Rust  best Rust  library/plain  library/best");
-    for (n1, n2) in SIZES {
-        let plan = powers_3x3(n1, n2, CellOrder::Scattered, &mut Rng::new(1)).encode();
+    println!("Test of an accepted plan; medians in microseconds");
+    println!("{SUBJECT}   library  plain Rust  best Rust  library/plain  library/best");
+    for subject in subjects(&mut Rng::new(1)) {
+        let bytes = subject.plan.encode();
         let contenders: [&dyn Fn(); 3] = [
-            &|| assert_eq!(SHEET.plan_test(black_box(&plan)), 0),
-            &|| assert_eq!(plain_plan_test(black_box(&plan)), 0),
-            &|| assert_eq!(best_plan_test(black_box(&plan)), 0),
+            &|| assert_eq!(SHEET.plan_test(black_box(&bytes)), 0),
+            &|| assert_eq!(plain_plan_test(black_box(&bytes)), 0),
+            &|| assert_eq!(best_plan_test(black_box(&bytes)), 0),
         ];
         let [library, plain, best] = in_turns(contenders).map(median);
+        subject.print();
         println!(
-            "{n1:4} x {n2:<4}{library:8.0} {plain:11.0} {best:10.0} {:14.2} {:13.2}",
+            "{library:10.0} {plain:11.0} {best:10.0} {:14.2} {:13.2}",
             library / plain,
             library / best,
         );
@@ -94,24 +138,17 @@ fn micros(time: Duration) -> f64 {
 fn write_and_read() {
     println!();
     println!("Write and read beyond the plan test; least times in microseconds");
-    println!("     size   burst  plan test   call   library  plain Rust  library/plain");
+    println!("{SUBJECT}  plan test   call   library  plain Rust  library/plain");
     let mut rng = Rng::new(2);
-    for plan in plans(&mut rng) {
-        compare(&Job::new(&plan, &mut rng));
+    for subject in subjects_and_single(&mut rng) {
+        compare(&Job::new(&subject, &mut rng));
     }
-}
-
-/// One plan of each size with bursts of 3 x 3 cells, and one with bursts of one cell.
-fn plans(rng: &mut Rng) -> Vec<Plan> {
-    let mut plans = SIZES.map(|(n1, n2)| powers_3x3(n1, n2, CellOrder::Scattered, rng)).to_vec();
-    plans.push(powers_1x1(CellOrder::Scattered, rng));
-    plans
 }
 
 /// What is timed: a plan, data, the sheet written from them, and a scan of it with a full burst in
 /// the last corner, where a search in sheet order comes last.
 struct Job<'a> {
-    plan: &'a Plan,
+    subject: &'a Subject,
     bytes: Vec<u8>,
     data: Vec<u8>,
     written: Vec<u8>,
@@ -121,14 +158,15 @@ struct Job<'a> {
 }
 
 impl Job<'_> {
-    fn new<'a>(plan: &'a Plan, rng: &mut Rng) -> Job<'a> {
+    fn new<'a>(subject: &'a Subject, rng: &mut Rng) -> Job<'a> {
+        let plan = &subject.plan;
         let data = random_data(plan, rng);
         let written = write_sheet(plan, &data);
         let cells = burst(plan, plan.n1 - plan.b1, plan.n2 - plan.b2, u32::MAX);
         let scan = turned(plan, &written, &cells);
         let sheet = RefCell::new(scan.clone());
         let into = RefCell::new(vec![0; data.len()]);
-        Job { plan, bytes: plan.encode(), data, written, scan, sheet, into }
+        Job { subject, bytes: plan.encode(), data, written, scan, sheet, into }
     }
 
     fn restore(&self) {
@@ -138,11 +176,6 @@ impl Job<'_> {
     /// The last contender has left the written sheet and its data.
     fn assert_done(&self) {
         assert_eq!((&*self.sheet.borrow(), &*self.into.borrow()), (&self.written, &self.data));
-    }
-
-    fn print_size(&self) {
-        let Plan { n1, n2, b1, b2, .. } = self.plan;
-        print!("{n1:4} x {n2:<4}  {b1} x {b2} ");
     }
 
     fn test(&self, archive: Archive) {
@@ -161,13 +194,13 @@ impl Job<'_> {
     }
 
     fn plain_write(&self) {
-        write_accepted(black_box(self.plan), &self.data, &mut self.sheet.borrow_mut());
+        write_accepted(black_box(&self.subject.plan), &self.data, &mut self.sheet.borrow_mut());
     }
 
     fn plain_read(&self) {
         self.restore();
         let (mut sheet, mut into) = (self.sheet.borrow_mut(), self.into.borrow_mut());
-        assert_eq!(read_accepted(black_box(self.plan), &mut sheet, &mut into).number, 0);
+        assert_eq!(read_accepted(black_box(&self.subject.plan), &mut sheet, &mut into).number, 0);
     }
 }
 
@@ -184,8 +217,8 @@ fn compare(job: &Job) {
     for (call, library, plain) in
         [("write", write - test, plain_write), ("read", read - test, plain_read)]
     {
-        job.print_size();
-        println!("{test:10.0} {call:>6} {library:9.0} {plain:11.0} {:14.2}", library / plain);
+        job.subject.print();
+        println!("{test:11.0} {call:>6} {library:9.0} {plain:11.0} {:14.2}", library / plain);
     }
 }
 
@@ -199,10 +232,10 @@ mod before {
     pub fn beside() {
         println!();
         println!("Beside the archive of the earlier commit; least times in microseconds");
-        println!("     size   burst       call    before   library  library/before");
+        println!("{SUBJECT}       call    before   library  library/before");
         let mut rng = Rng::new(3);
-        for plan in plans(&mut rng) {
-            let job = Job::new(&plan, &mut rng);
+        for subject in subjects_and_single(&mut rng) {
+            let job = Job::new(&subject, &mut rng);
             let contenders: [&dyn Fn(); 6] = [
                 &|| job.test(BEFORE),
                 &|| job.test(SHEET),
@@ -219,8 +252,8 @@ mod before {
                 ("write", write, write_now),
                 ("read", read, read_now),
             ] {
-                job.print_size();
-                println!("{call:>10} {before:9.0} {now:9.0} {:15.2}", now / before);
+                job.subject.print();
+                println!("{call:>11} {before:9.0} {now:9.0} {:15.2}", now / before);
             }
         }
     }
