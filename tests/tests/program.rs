@@ -9,14 +9,18 @@ use sheet_tests::model;
 use sheet_tests::plan::{field, set_header_field, Plan};
 use sheet_tests::rng::Rng;
 use sheet_tests::scans::{random_burst, random_data, random_sheet, turned};
+use std::fs::File;
 use std::io::{ErrorKind, Read, Write};
 use std::process::{Command, Stdio};
 use std::time::Duration;
 
+fn program() -> Command {
+    Command::new(std::env::var("SHEETREAD").unwrap_or_else(|_| "../target/bin/sheetread".into()))
+}
+
 /// What the program prints for an input that is handed over in pieces, with a pause between them.
 fn printed_in_pieces(pieces: &[&[u8]], pause: Duration) -> String {
-    let path = std::env::var("SHEETREAD").unwrap_or_else(|_| "../target/bin/sheetread".into());
-    let mut child = Command::new(path)
+    let mut child = program()
         .stdin(Stdio::piped())
         .stdout(Stdio::piped())
         .spawn()
@@ -88,6 +92,18 @@ fn past_the_limit() {
         input.resize(len, 0);
         compare(&input);
     }
+}
+
+/// A read that fails ends the input, and a write that fails ends the program; neither is told
+/// (docs/FORMAT.md).
+#[test]
+fn input_and_output_that_fail() {
+    let folder = File::open(".").expect("a folder can be opened");
+    let ended = program().stdin(folder).output().expect("the program runs");
+    assert_eq!((ended.stdout.as_slice(), ended.status.code()), (b"no 1 0 0\n".as_slice(), Some(0)));
+    let full = File::options().write(true).open("/dev/full").expect("Linux has it");
+    let ended = program().stdin(Stdio::null()).stdout(full).output().expect("the program runs");
+    assert_eq!((ended.stderr.len(), ended.status.code()), (0, Some(0)));
 }
 
 #[test]
