@@ -1,6 +1,6 @@
-//! sheet_plan_test on tables of powers, in which each entry is z times the one before modulo one
-//! polynomial, on tables that are nearly so, and on tables that look so and fail, beside the model.
-//! Such tables can be tested by one row of pairs, so that a wrong shortcut would show here.
+//! sheet_plan_test beside the model on tables of powers, in which each entry is z times the one before
+//! modulo one polynomial, and on tables that are nearly so. Where z has an inverse, one row of pairs
+//! decides for all; a plan test that takes this way for a table that is only nearly so is found here.
 
 use std::collections::BTreeSet;
 
