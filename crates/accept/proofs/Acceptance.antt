@@ -5,6 +5,7 @@
 --   checks-hold, hold-checks    check 10 passes exactly where the condition on check cells holds
 --   accepted-plan               where the test gives 0, the plan is accepted
 --   plan-accepted               where the plan is accepted, the test gives 0 (and places 0, 0)
+--   accepted-with               the same, with the header by its own name
 --
 -- Assumes nothing.
 use mathlib.Core.Path.{_≡_, refl, sym, ap, _∙_}
@@ -22,6 +23,9 @@ use Rattle.boxcode.specs.Code.{Code, Formed, checkJoint}
 use Rattle.boxcode.specs.Condition.{everyone, rowMember, columnMember, columnDifference, Conditions, rowPairFree, columnPairFree}
 use Rattle.plan.specs.declared.verdict.Verdict.{Verdict}
 use Rattle.plan.specs.Verdict.{accepted, _orElse_}
+use Rattle.plan.specs.declared.header.Header.{Header}
+use Rattle.plan.specs.Header.{headerOf}
+use Rattle.plan.specs.Accepted.{AcceptedWith}
 use Rattle.plan.specs.Bytes.{codeOf}
 use Rattle.plan.specs.Form.{formVerdict}
 use Rattle.plan.proofs.Sequence.{else-zero, else-second}
@@ -104,3 +108,8 @@ unfolding planVerdict
 plan-accepted s A =
     else-second (formVerdict s) (conditionsVerdict (codeOf s)) (ap (λ (v : Verdict). v .number) (form-passes s (A .framed) (A .formed)))
     ∙ hold-conditions (codeOf s) (A .formed) (A .conditions)
+
+-- the same with the header by its own name
+pub accepted-with : (s : List ℕ) (h : Header) → h ≡ headerOf s → Accepted s → AcceptedWith s h
+unfolding codeOf
+accepted-with s h e A = rw e (record { framed = A .framed; formed = A .formed; conditions = A .conditions })

@@ -18,15 +18,14 @@ use lib.Pow.{pow-mono, shl-exact}
 use lib.Seq.{take-suc-set}
 use Rattle.finite.specs.Search.{least}
 use Rattle.gf2.specs.Independence.{spanned}
-use Rattle.gf2.specs.Vectors.{listed}
-use Rattle.gf2.specs.Basis.{emptyWords, extended, Below}
-use Rattle.gf2.proofs.Basis.{basis-start, extended-taken}
+use Rattle.gf2.specs.Vectors.{takenFrom, listed}
+use Rattle.gf2.proofs.Basis.{Below}
 use Rattle.gf2.proofs.Vectors.{taken-least, listed-in, listed-none, listed-length}
 use Rattle.gf2.proofs.Span.{listed-at}
 use Rattle.boxcode.specs.Code.{Code, Formed, rowWeight, columnWeight, jointWeight, checkJoint}
 use Rattle.boxcode.specs.Condition.{everyone}
-use Rattle.boxcode.proofs.Syndrome.{joint-below}
-use Rattle.accept.specs.Tables.{jointsOf, Joint}
+use Rattle.boxcode.proofs.Syndrome.{check-below}
+use Rattle.accept.specs.Joints.{jointsOf, Joint}
 
 pub joint-word : (rv rh : ℕ) → rv ≤ 32 → rh ≤ 32 → 2 ^ (rv + rh) ≤ 2 ^ 64
 joint-word rv rh l u = pow-mono {i = rv + rh} {j = 64} (omega arith)
@@ -35,15 +34,11 @@ pub shift-exact : (rv : ℕ) → rv ≤ 32 → 1 * 2 ^ rv % 2 ^ 64 ≡ 2 ^ rv
 shift-exact rv l = shl-exact 1 rv 64 (omega arith) (omega arith) ∙ one-mul (2 ^ rv)
 
 module _ (c : Code) (F : Formed c) where
-  check-below : (k : ℕ) → k < c .rv + c .rh → checkJoint c k < 2 ^ (c .rv + c .rh)
-  unfolding checkJoint
-  check-below k l = joint-below c F (c .checkRow k) (c .checkColumn k) (F .check-rows k l) (F .check-columns k l)
-
   pub joint-of : (k v w : ℕ) → k < c .rv + c .rh → v ≡ rowWeight c (c .checkRow k) (c .checkColumn k)
       → w ≡ columnWeight c (c .checkRow k) (c .checkColumn k) → Joint c k (v + 2 ^ c .rv * w)
   joint-of k v w l ev ew =
       let e : v + 2 ^ c .rv * w ≡ checkJoint c k = rw (ev, ew) (unfold checkJoint jointWeight in refl) in
-      record { value = e; below = rw e (check-below k l) }
+      record { value = e; below = rw e (check-below c F k l) }
 
   -- the words of a basis
   pub joints-below : Below 64 (jointsOf c)
@@ -51,11 +46,11 @@ module _ (c : Code) (F : Formed c) where
   joints-below k l =
       let n : k < c .rv + c .rh = omega (arith, listed-length (c .rv + c .rh) (checkJoint c)) in
       rw (listed-at (c .rv + c .rh) (checkJoint c) k n)
-      (omega (arith, check-below k n, joint-word (c .rv) (c .rh) (F .rv-most) (F .rh-most)))
+      (omega (arith, check-below c F k n, joint-word (c .rv) (c .rh) (F .rv-most) (F .rh-most)))
 
-  pub joints-taken : extended emptyWords (jointsOf c) .taken ≡ least (c .rv + c .rh) (λ k. spanned k everyone (checkJoint c) (checkJoint c k))
+  pub joints-taken : takenFrom [] (jointsOf c) ≡ least (c .rv + c .rh) (λ k. spanned k everyone (checkJoint c) (checkJoint c k))
   unfolding jointsOf
-  joints-taken = extended-taken (jointsOf c) basis-start joints-below ∙ taken-least (c .rv + c .rh) (checkJoint c)
+  joints-taken = taken-least (c .rv + c .rh) (checkJoint c)
 
 -- the joint entries of the first check cells, in an array
 pub joints-none : (c : Code) → listed 0 everyone (checkJoint c) ≡ []

@@ -1,8 +1,10 @@
 -- The laws of the definitions of specs/.
 pub mod Pairing
-pub mod Windows
+pub mod Shift
 pub mod RowPairs
-pub mod Strips
+pub mod ColumnPairs
+pub mod Remains
+pub mod Tables
 pub mod JointEntries
 pub mod Acceptance
 pub mod Range

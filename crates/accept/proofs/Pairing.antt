@@ -3,7 +3,8 @@
 --   row-next, row-fails, row-end   at pair (i, j): it is free, it fails, there is none left in the row
 --   rows-next, rows-end            at row i, and past the last
 --   clear-all                      the search is clear exactly where every pair is free (all-clear)
---   pairs-equal                    equal tests have the same answer
+--   row-equal, pairs-equal         equal tests have the same answer
+--   first-row                      where each pair is as the one with the first start that is as far apart, one row is enough
 --
 -- Assumes nothing.
 use mathlib.Core.Path.{_≡_, refl, _∙_}
@@ -38,7 +39,7 @@ module _ (ok : ℕ → ℕ → Bool) where
     rows-end n i l = let z : n - i ≡ 0 = omega arith in rw z (unfold fromRow in refl)
 
 -- equal tests in a row, and in all rows
-row-equal :
+pub row-equal :
     (ok ok' : ℕ → ℕ → Bool) (i m j : ℕ) (rest : Pair) → ((k : ℕ) → j ≤ k → k < j + m → ok i k ≡ ok' i k)
     → inRow ok i j m rest ≡ inRow ok' i j m rest
 unfolding inRow
@@ -120,3 +121,29 @@ pub all-clear :
     → firstFailing ok start n ≡ Clear
 unfolding firstFailing every
 all-clear ok start n h = pairs-equal ok every start n h ∙ rows-every start n n 0
+
+-- what comes after a row does not matter where the row tells it
+row-rest : (ok : ℕ → ℕ → Bool) (i m j : ℕ) (rest : Pair) → (inRow ok i j m Clear ≡ Clear → rest ≡ Clear) → inRow ok i j m rest ≡ inRow ok i j m Clear
+unfolding inRow
+row-rest ok i zero j rest h = h refl
+row-rest ok i (suc m) j rest h = go (ok i j) h (row-rest ok i m (suc j) rest)
+  where
+    go : (t : Bool) → (cond t (inRow ok i (suc j) m Clear) (Failing i j) ≡ Clear → rest ≡ Clear)
+        → ((inRow ok i (suc j) m Clear ≡ Clear → rest ≡ Clear) → inRow ok i (suc j) m rest ≡ inRow ok i (suc j) m Clear)
+        → cond t (inRow ok i (suc j) m rest) (Failing i j) ≡ cond t (inRow ok i (suc j) m Clear) (Failing i j)
+    go true h ih = ih h
+    go false h ih = refl
+
+pub first-row :
+    (ok : ℕ → ℕ → Bool) (start : ℕ → ℕ) (n : ℕ) → 1 ≤ n
+    → ((i j : ℕ) → i < n → start i ≤ j → j < n → (start 0 ≤ j - i) × (ok i j ≡ ok 0 (j - i)))
+    → firstFailing ok start n ≡ inRow ok 0 (start 0) (n - start 0) Clear
+unfolding firstFailing fromRow every
+first-row ok start zero l h = absurd (omega arith)
+first-row ok start (suc m) l h =
+    row-rest ok 0 (suc m - start 0) (start 0) (fromRow ok start (suc m) 1 m)
+    (λ e.
+    let all = row-clear ok 0 (suc m - start 0) (start 0) Clear e .1 in
+    rows-equal ok every start (suc m) m 1
+    (λ i j a b c d. let s = h i j (omega arith) c d in s .1 ∙ all (j - i) (s .0) (omega arith))
+    ∙ rows-every start (suc m) m 1)

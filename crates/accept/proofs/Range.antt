@@ -1,6 +1,6 @@
 -- The answer of the test of a plan is small: its number and places fit the fields of the packed answer.
 --
---   Fits v            number below 32, p below 65,536, q below 4,096
+--   SmallVerdict v    number below 32, p below 65,536, q below 4,096
 --   else-fits, if-fits, at-fits, pair-fits   of the parts an answer is made of
 --   plan-fits         of the test of a plan
 --
@@ -22,7 +22,8 @@ use Rattle.plan.specs.declared.header.Header.{Header}
 use Rattle.plan.specs.Verdict.{accepted, refusal, verdictIf, _orElse_}
 use Rattle.plan.specs.Header.{headerLength, headerOf}
 use Rattle.plan.specs.Bytes.{codeOf}
-use Rattle.plan.specs.Form.{badBurst, badSheet, badWidths, badOffsets, headerVerdict, fieldsVerdict, firstLarge, entriesVerdict, badPair, listVerdict, formVerdict, verdictAt}
+use Rattle.plan.specs.Form.{badBurst, badSheet, badWidths, badOffsets, headerVerdict, fieldsVerdict, verdictAt}
+use Rattle.plan.specs.Form.{firstLarge, entriesVerdict, badPair, listVerdict, formVerdict}
 use Rattle.plan.proofs.Framing.{framed}
 use Rattle.plan.proofs.Forming.{formed}
 use Rattle.accept.specs.declared.pairs.Pair.{Pair}
@@ -30,67 +31,68 @@ use Rattle.accept.specs.declared.pairs.Pair.the-variants.{Failing, Clear
 use Rattle.accept.specs.Pairs.{inRow, fromRow, firstFailing, pairVerdict}
 use Rattle.accept.specs.Verdict.{rowsVerdict, columnsVerdict, checksVerdict, conditionsVerdict, planVerdict}
 
-pub record Fits (v : Verdict) : Type 0 where
+pub record SmallVerdict (v : Verdict) : Type 0 where
   pub number-fits : v .number < 32
   pub p-fits : v .p < 65536
   pub q-fits : v .q < 4096
 
-pub accepted-fits : Fits accepted
+pub accepted-fits : SmallVerdict accepted
 accepted-fits = record { number-fits = omega arith; p-fits = omega arith; q-fits = omega arith }
 
-pub else-fits : (v w : Verdict) → Fits v → (v .number ≡ 0 → Fits w) → Fits (v orElse w)
+pub else-fits : (v w : Verdict) → SmallVerdict v → (v .number ≡ 0 → SmallVerdict w) → SmallVerdict (v orElse w)
 unfolding _orElse_
 else-fits v w f g = go (eqb (v .number) 0) refl
   where
-    go : (t : Bool) → eqb (v .number) 0 ≡ t → Fits (cond t w v)
+    go : (t : Bool) → eqb (v .number) 0 ≡ t → SmallVerdict (cond t w v)
     go true e = g (eqb-true (v .number) 0 e)
     go false e = f
 
-pub if-fits : (t : Bool) (v : Verdict) → (t ≡ true → Fits v) → Fits (verdictIf t v)
+pub if-fits : (t : Bool) (v : Verdict) → (t ≡ true → SmallVerdict v) → SmallVerdict (verdictIf t v)
 if-fits true v f = f refl
 if-fits false v f = accepted-fits
 
 -- a refusal at the place that a search over n places found
-pub at-fits : (n k : ℕ) (v : Verdict) → (k < n → Fits v) → Fits (verdictAt n k v)
+pub at-fits : (n k : ℕ) (v : Verdict) → (k < n → SmallVerdict v) → SmallVerdict (verdictAt n k v)
 at-fits n k v f = if-fits (ltb k n) v (λ e. f (ltb-true k n e))
 
 -- a failing pair lies below the number of starts
-Below : ℕ → Pair → Type 0
-Below n (Failing i j) = (i < n) × (j < n)
-Below n Clear = Unit {0}
+PairBelow : ℕ → Pair → Type 0
+PairBelow n (Failing i j) = (i < n) × (j < n)
+PairBelow n Clear = Unit {0}
 
-row-below : (ok : ℕ → ℕ → Bool) (n i m j : ℕ) (rest : Pair) → i < n → j + m ≤ n → Below n rest → Below n (inRow ok i j m rest)
-unfolding inRow Below
+row-below : (ok : ℕ → ℕ → Bool) (n i m j : ℕ) (rest : Pair) → i < n → j + m ≤ n → PairBelow n rest → PairBelow n (inRow ok i j m rest)
+unfolding inRow PairBelow
 row-below ok n i zero j rest l u b = b
 row-below ok n i (suc m) j rest l u b = go (ok i j) (row-below ok n i m (suc j) rest l (omega arith) b)
   where
-    go : (t : Bool) → Below n (inRow ok i (suc j) m rest) → Below n (cond t (inRow ok i (suc j) m rest) (Failing i j))
+    go : (t : Bool) → PairBelow n (inRow ok i (suc j) m rest) → PairBelow n (cond t (inRow ok i (suc j) m rest) (Failing i j))
     go true ih = ih
     go false ih = (l, omega arith)
 
-rows-below : (ok : ℕ → ℕ → Bool) (start : ℕ → ℕ) (n m i : ℕ) → ((k : ℕ) → k < n → start k ≤ n) → i + m ≤ n → Below n (fromRow ok start n i m)
-unfolding fromRow Below
+rows-below : (ok : ℕ → ℕ → Bool) (start : ℕ → ℕ) (n m i : ℕ) → ((k : ℕ) → k < n → start k ≤ n) → i + m ≤ n → PairBelow n (fromRow ok start n i m)
+unfolding fromRow PairBelow
 rows-below ok start n zero i s u = tt
 rows-below ok start n (suc m) i s u =
     let l = s i (omega arith) in
     row-below ok n i (n - start i) (start i) (fromRow ok start n (suc i) m) (omega arith) (omega arith) (rows-below ok start n m (suc i) s (omega arith))
 
 pub pair-fits : (number n : ℕ) (ok : ℕ → ℕ → Bool) (start : ℕ → ℕ) → number < 32 → n ≤ 4096 → ((k : ℕ) → k < n → start k ≤ n)
-    → Fits (pairVerdict number (firstFailing ok start n))
-unfolding firstFailing Below
+    → SmallVerdict (pairVerdict number (firstFailing ok start n))
+unfolding firstFailing PairBelow
 pair-fits number n ok start l u s = go (fromRow ok start n 0 n) (rows-below ok start n n 0 s (omega arith))
   where
-    go : (p : Pair) → Below n p → Fits (pairVerdict number p)
+    go : (p : Pair) → PairBelow n p → SmallVerdict (pairVerdict number p)
     go (Failing i j) b = record { number-fits = l; p-fits = omega (arith, b .0); q-fits = omega (arith, b .1) }
     go Clear b = accepted-fits
 
-refusal-fits : (n : ℕ) → n < 32 → Fits (refusal n 0 0)
+refusal-fits : (n : ℕ) → n < 32 → SmallVerdict (refusal n 0 0)
 refusal-fits n l = record { number-fits = l; p-fits = omega arith; q-fits = omega arith }
 
-fields-fits : (size : ℕ) (h : Header) → Fits (fieldsVerdict size h)
+fields-fits : (size : ℕ) (h : Header) → SmallVerdict (fieldsVerdict size h)
 unfolding fieldsVerdict
 fields-fits size h =
-    else-fits (verdictIf (badBurst h) (refusal 2 0 0)) (third orElse fourth orElse fifth) (if-fits (badBurst h) (refusal 2 0 0) (λ _. refusal-fits 2 (omega arith)))
+    else-fits (verdictIf (badBurst h) (refusal 2 0 0)) (third orElse fourth orElse fifth)
+    (if-fits (badBurst h) (refusal 2 0 0) (λ _. refusal-fits 2 (omega arith)))
     (λ _. else-fits third (fourth orElse fifth) (if-fits (badSheet h) (refusal 3 0 0) (λ _. refusal-fits 3 (omega arith)))
     (λ _. else-fits fourth fifth (if-fits (badWidths h) (refusal 4 0 0) (λ _. refusal-fits 4 (omega arith)))
     (λ _. if-fits (badOffsets size h) (refusal 5 0 0) (λ _. refusal-fits 5 (omega arith)))))
@@ -104,20 +106,20 @@ fields-fits size h =
     fifth : Verdict
     fifth = verdictIf (badOffsets size h) (refusal 5 0 0)
 
-header-fits : (s : List ℕ) → Fits (headerVerdict s)
+header-fits : (s : List ℕ) → SmallVerdict (headerVerdict s)
 unfolding headerVerdict
 header-fits s =
     else-fits (verdictIf (ltb (length s) headerLength) (refusal 1 0 0)) (fieldsVerdict (length s) (headerOf s))
     (if-fits (ltb (length s) headerLength) (refusal 1 0 0) (λ _. refusal-fits 1 (omega arith))) (λ _. fields-fits (length s) (headerOf s))
 
 -- a refusal at an index of a table, or of the check list
-index-fits : (n k m p : ℕ) → n ≤ 2792 → m < 32 → p ≤ 1 → Fits (verdictAt n k (refusal m p k))
+index-fits : (n k m p : ℕ) → n ≤ 2792 → m < 32 → p ≤ 1 → SmallVerdict (verdictAt n k (refusal m p k))
 index-fits n k m p u l o = at-fits n k (refusal m p k) (λ lk. record { number-fits = l; p-fits = omega arith; q-fits = omega arith })
 
-place-fits : (n k m : ℕ) → n ≤ 64 → m < 32 → Fits (verdictAt n k (refusal m k 0))
+place-fits : (n k m : ℕ) → n ≤ 64 → m < 32 → SmallVerdict (verdictAt n k (refusal m k 0))
 place-fits n k m u l = at-fits n k (refusal m k 0) (λ lk. record { number-fits = l; p-fits = omega arith; q-fits = omega arith })
 
-entries-fits : (c : Code) → c .n1 * c .b2 ≤ 2048 → c .n2 * c .b1 ≤ 2792 → Fits (entriesVerdict c)
+entries-fits : (c : Code) → c .n1 * c .b2 ≤ 2048 → c .n2 * c .b1 ≤ 2792 → SmallVerdict (entriesVerdict c)
 unfolding entriesVerdict
 entries-fits c u w =
     else-fits (verdictAt (c .n1 * c .b2) v (refusal 6 0 v)) (verdictAt (c .n2 * c .b1) h (refusal 6 1 h))
@@ -129,11 +131,11 @@ entries-fits c u w =
     h : ℕ
     h = firstLarge (c .n2 * c .b1) (c .rh) (c .columnEntry)
 
-list-fits : (c : Code) → c .rv + c .rh ≤ 64 → Fits (listVerdict c)
+list-fits : (c : Code) → c .rv + c .rh ≤ 64 → SmallVerdict (listVerdict c)
 unfolding listVerdict
 list-fits c u = place-fits (c .rv + c .rh) (least (c .rv + c .rh) (badPair c)) 7 u (omega arith)
 
-form-fits : (s : List ℕ) → Fits (formVerdict s)
+form-fits : (s : List ℕ) → SmallVerdict (formVerdict s)
 unfolding formVerdict codeOf
 form-fits s =
     else-fits (headerVerdict s) (entriesVerdict (codeOf s) orElse listVerdict (codeOf s)) (header-fits s)
@@ -141,7 +143,7 @@ form-fits s =
     else-fits (entriesVerdict (codeOf s)) (listVerdict (codeOf s)) (entries-fits (codeOf s) (p .row-positions) (p .column-positions))
     (λ _. list-fits (codeOf s) (omega (arith, p .rv-most, p .rh-most))))
 
-conditions-fits : (c : Code) → Formed c → Fits (conditionsVerdict c)
+conditions-fits : (c : Code) → Formed c → SmallVerdict (conditionsVerdict c)
 unfolding conditionsVerdict rowsVerdict columnsVerdict checksVerdict
 conditions-fits c F =
     else-fits (rowsVerdict c) (columnsVerdict c orElse checksVerdict c)
@@ -151,6 +153,6 @@ conditions-fits c F =
     (λ _. place-fits (c .rv + c .rh) (least (c .rv + c .rh) (λ k. spanned k everyone (checkJoint c) (checkJoint c k))) 10
     (omega (arith, F .rv-most, F .rh-most)) (omega arith)))
 
-pub plan-fits : (s : List ℕ) → Fits (planVerdict s)
+pub plan-fits : (s : List ℕ) → SmallVerdict (planVerdict s)
 unfolding planVerdict
 plan-fits s = else-fits (formVerdict s) (conditionsVerdict (codeOf s)) (form-fits s) (λ e. conditions-fits (codeOf s) (formed s e .1))

@@ -1,4 +1,6 @@
 -- The test of a plan (document 01, "When a plan is accepted" and checks 8 to 10).
 pub mod Pairs
-pub mod Tables
 pub mod Verdict
+pub mod Checked
+pub mod Joints
+pub mod Windows

@@ -4,10 +4,10 @@ ghost use Prim.Native.Nat.{_+_, _*_, _<_};
 ghost use Rattle.boxcode.specs.Code.{Formed};
 ghost use Rattle.plan.specs.Header.{Framed};
 ghost use Rattle.plan.specs.Bytes.{codeWith};
-ghost use Rattle.accept.specs.Tables.{Joint, Joints};
+ghost use Rattle.accept.specs.Joints.{Joint, Joints};
 ghost use Rattle.accept.specs.Verdict.{checksVerdict};
 use gf2::empty_basis;
-use gf2::extend;
+use gf2::keep;
 use plan::entry::check_cell;
 use plan::entry::column_weight;
 use plan::entry::row_weight;
@@ -52,6 +52,6 @@ pub fn checks_verdict(plan: &[u8], h: Header) -> Verdict
 {
     let joints = check_joints(plan, h);
     let count = h.rv + h.rh;
-    let taken = extend(empty_basis(), &joints[..count]).taken;
+    let taken = keep(empty_basis(), &joints[..count]).taken;
     refuse_if(taken < count, 10, taken, 0)
 }

@@ -6,6 +6,7 @@
 --   check-row, check-column      a check cell from its number
 --   check-here, check-found, check-index   which numbers are check cells, and their places in the list
 --   dataAt                       a place of the data's order holds data
+--   sheet-cells                  a sheet has at most 512 × 698 cells
 --   checks-fit, data-count       the check cells are no more than the cells; so many places hold data as dataSize says
 --   data-below, data-free, data-rank   data bit d stands on the sheet, in no check cell, and is number d
 --   rank-below, rank-data        every other cell holds the data bit of its number
@@ -14,7 +15,7 @@
 use mathlib.Core.Path.{_≡_, refl, sym, ap, _∙_}
 use mathlib.Core.Bool.{Bool, true, false, not}
 use Prim.Native.Nat.{ℕ, zero, suc, _+_, _*_, _/_, _%_, _≤_, _<_}
-use native.Mathlib.Nat.{div-add-mod'}
+use native.Mathlib.Nat.{div-add-mod', mul-le-mul}
 use native.Mathlib.Decide.{ℕ-discrete, decLt}
 use native.Mathlib.Omega.{arith}
 use lib.Dec.{eqb}
@@ -57,6 +58,10 @@ module _ (c : Code) (i j : ℕ) (lj : j < c .n2) where
 pub number-cell : (c : Code) (t : ℕ) → cellNumber c (t / c .n2) (t % c .n2) ≡ t
 unfolding cellNumber
 number-cell c t = div-add-mod' t (c .n2)
+
+-- for the bounds of document 01
+pub sheet-cells : {n1 n2 : ℕ} → n1 ≤ 512 → n2 ≤ 698 → n1 * n2 ≤ 357376
+sheet-cells l u = mul-le-mul l u
 
 -- ---- check cells
 

@@ -1,31 +1,37 @@
--- Laws of the basis by leading digit.
+-- The basis by leading digit, and its laws.
 --
+--   Below w ms       the elements of ms are below 2 ^ w
+--   BasisOf vs b     the words b are a basis of what vs span
 --   basis-empty      64 zeros are a basis of no vectors
 --   basis-reduces    a number is spanned exactly where it reduces to 0
 --   basis-inserted   a vector that does not reduce to 0, put in
---   basis-extended   `extended` takes as many vectors as `takenFrom` says, and is a basis with these
 --
 -- Assumes nothing.
 use mathlib.Core.Path.{_≡_, refl, sym, ap, _∙_}
-use mathlib.Core.Bool.{Bool, true, false, cond}
-use mathlib.Core.List.{List, [], _∷_, _++_, reverseAux}
+use mathlib.Core.Bool.{true}
+use mathlib.Core.List.{List, [], _∷_, _++_}
 use mathlib.Core.Logic.{⊎-elim, inl, inr}
-use Prim.Native.Nat.{ℕ, zero, suc, _+_, _^_, _≤_, _<_}
-use native.Mathlib.Nat.{zero-lt-suc}
+use Prim.Native.Nat.{ℕ, zero, suc, _^_, _≤_, _<_}
 use native.Mathlib.Decide.{ℕ-discrete}
 use native.Mathlib.Omega.{arith}
-use borrow.Author.Tests.{eqb-true, eqb-false, eq-eqb}
+use borrow.Author.Tests.{eqb-true, eq-eqb}
 use lib.Dec.{eqb}
 use lib.ListN.{length, getD, take, drop, set, length-set, replicate, length-replicate, getD-replicate}
 use lib.Seq.{getD-set-same, getD-set-other, set-split, split-at}
-use Rattle.gf2.specs.Vectors.{spans, takenFrom}
-use Rattle.gf2.specs.Basis.{emptyWords, top, lowered, reduced, inserted, extendedFrom, extended, Below, Word, BasisOf}
-use Rattle.gf2.specs.declared.Extended.{Extended}
+use Rattle.gf2.specs.Vectors.{spans}
+use Rattle.gf2.specs.Basis.{top, lowered, reduced, inserted}
 use Rattle.finite.proofs.Truth.{same-truth}
 use Rattle.gf2.proofs.Spans.{spans-zero, spans-known, spans-under, spans-middle, spans-exchange}
-use Rattle.gf2.proofs.Vectors.{taken-none, taken-more}
 use Rattle.gf2.proofs.Reduction.{Place, top-place, reduced-stuck, reduced-le, reduced-differ, reduced-same}
-use Rattle.gf2.proofs.Triangle.{xor-clears, spanned-down, spanned-top, spanned-list}
+use Rattle.gf2.proofs.Triangle.{Word, xor-clears, spanned-down, spanned-top, spanned-list}
+
+abbrev pub Below : ℕ → List ℕ → Type 0
+Below w ms = (k : ℕ) → k < length ms → getD ms k 0 < 2 ^ w
+
+pub record BasisOf (vs b : List ℕ) : Type 0 where
+  pub size : length b ≡ 64
+  pub shape : (k : ℕ) → k < 64 → Word k (getD b k 0)
+  pub same : (x : ℕ) → spans b x ≡ spans vs x
 
 zeros-span : (n x : ℕ) → spans (replicate n 0) x ≡ spans [] x
 zeros-span zero x = refl
@@ -37,10 +43,6 @@ basis-empty = record {
   shape = λ k l. inl (getD-replicate 64 k 0 0 l);
   same = zeros-span 64;
 }
-
-pub basis-start : BasisOf [] emptyWords
-unfolding emptyWords
-basis-start = basis-empty
 
 -- a word put where there is none
 set-span : (b : List ℕ) (k r x : ℕ) → k < length b → getD b k 0 ≡ 0 → spans (set b k r) x ≡ spans (r ∷ b) x
@@ -76,7 +78,8 @@ module _ {vs b : List ℕ} (B : BasisOf vs b) where
       (λ w. absurd (omega (arith, clear p w, reduced-stuck b x)))
       (B .shape (top (reduced b x)) (p .inside))
     where
-      clear : Place (reduced b x) (top (reduced b x)) → (2 ^ top (reduced b x) ≤ getD b (top (reduced b x)) 0) × (getD b (top (reduced b x)) 0 < 2 ^ suc (top (reduced b x)))
+      clear : Place (reduced b x) (top (reduced b x))
+          → (2 ^ top (reduced b x) ≤ getD b (top (reduced b x)) 0) × (getD b (top (reduced b x)) 0 < 2 ^ suc (top (reduced b x)))
           → lowered b (reduced b x) < reduced b x
       clear p w =
           let l : lowered b (reduced b x) < 2 ^ top (reduced b x) =
@@ -116,32 +119,3 @@ module _ {vs b : List ℕ} (B : BasisOf vs b) where
             set-span b (top (reduced b m)) (reduced b m) x (omega (arith, B .size, p .inside)) (left-free m h ne)
             ∙ spans-exchange b (reduced b m) m x (reduced-differ b m) ∙ spans-under b vs (B .same) m x;
       }
-
--- what `extended` gives, where i members stand in the basis already
-pub record Extends (vs ms : List ℕ) (i : ℕ) (r : Extended) : Type 0 where
-  pub count : r .taken ≡ i + takenFrom vs ms
-  pub basis : BasisOf (reverseAux (take (takenFrom vs ms) ms) vs) (r .basis)
-
-pub from-extends : (ms : List ℕ) {vs b : List ℕ} (i : ℕ) → BasisOf vs b → Below 64 ms → Extends vs ms i (extendedFrom ms b i)
-unfolding extendedFrom
-from-extends [] {vs} {b} i B h = record { count = omega (arith, taken-none vs); basis = rw (taken-none vs) B }
-from-extends (m ∷ ms) {vs} {b} i B h =
-    go (eqb (reduced b m) 0) refl (λ ne. from-extends ms (suc i) (basis-inserted B m (h 0 (zero-lt-suc (length ms))) ne) (λ k l. h (suc k) (omega arith)))
-  where
-    go : (t : Bool) → eqb (reduced b m) 0 ≡ t
-        → ((reduced b m ≡ 0 → ⊥) → Extends (m ∷ vs) ms (suc i) (extendedFrom ms (inserted b (reduced b m)) (suc i)))
-        → Extends vs (m ∷ ms) i (cond t (record { basis = b; taken = i }) (extendedFrom ms (inserted b (reduced b m)) (suc i)))
-    go true e ih =
-        let z : takenFrom vs (m ∷ ms) ≡ 0 = taken-more vs m ms ∙ rw (← basis-reduces B m (h 0 (zero-lt-suc (length ms))), e) in
-        record { count = omega arith; basis = rw z B }
-    go false e ih =
-        let z : takenFrom vs (m ∷ ms) ≡ suc (takenFrom (m ∷ vs) ms) = taken-more vs m ms ∙ rw (← basis-reduces B m (h 0 (zero-lt-suc (length ms))), e) in
-        let r = ih (eqb-false (reduced b m) 0 e) in
-        record { count = omega (arith, r .count); basis = rw z (r .basis) }
-
-pub basis-extended : (ms : List ℕ) {vs b : List ℕ} → BasisOf vs b → Below 64 ms → Extends vs ms 0 (extended b ms)
-unfolding extended
-basis-extended ms B h = from-extends ms 0 B h
-
-pub extended-taken : (ms : List ℕ) {vs b : List ℕ} → BasisOf vs b → Below 64 ms → extended b ms .taken ≡ takenFrom vs ms
-extended-taken ms B h = omega (arith, basis-extended ms B h .count)

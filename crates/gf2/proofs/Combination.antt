@@ -60,7 +60,8 @@ combination-xor vs y z =
 pub combination-zero : (vs : List ℕ) → combination vs 0 ≡ 0
 unfolding combination
 combination-zero vs =
-    sum-zero (length vs) (λ i. pick (bit 0 i) (getD vs i 0)) (λ i l. ap (λ (t : Bool). pick t (getD vs i 0)) (bit-past 0 i 0 (omega arith) (omega arith)) ∙ pick-false (getD vs i 0))
+    sum-zero (length vs) (λ i. pick (bit 0 i) (getD vs i 0))
+    (λ i l. ap (λ (t : Bool). pick t (getD vs i 0)) (bit-past 0 i 0 (omega arith) (omega arith)) ∙ pick-false (getD vs i 0))
 
 pub next-length : (vs : List ℕ) (m : ℕ) → length (vs ++ (m ∷ [])) ≡ suc (length vs)
 next-length vs m = length-append vs (m ∷ []) ∙ omega arith
@@ -73,7 +74,8 @@ combination-kept vs m y l =
     ∙ ap₂ _⊕_
     (sum-equal (length vs) (λ i. pick (bit y i) (getD (vs ++ (m ∷ [])) i 0)) (λ i. pick (bit y i) (getD vs i 0))
     (λ i u. ap (λ (x : ℕ). pick (bit y i) x) (List·getD-append vs (m ∷ []) 0 i u)))
-    (ap (λ (t : Bool). pick t (getD (vs ++ (m ∷ [])) (length vs) 0)) (bit-past (length vs) (length vs) y l (omega arith)) ∙ pick-false (getD (vs ++ (m ∷ [])) (length vs) 0))
+    (ap (λ (t : Bool). pick t (getD (vs ++ (m ∷ [])) (length vs) 0)) (bit-past (length vs) (length vs) y l (omega arith))
+    ∙ pick-false (getD (vs ++ (m ∷ [])) (length vs) 0))
     ∙ xor-zero-right (xorSum (length vs) (λ i. pick (bit y i) (getD vs i 0))))
 
 pub combination-last : (vs : List ℕ) (m : ℕ) → combination (vs ++ (m ∷ [])) (2 ^ length vs) ≡ m
@@ -81,7 +83,8 @@ unfolding combination
 combination-last vs m =
     sum-single (length (vs ++ (m ∷ []))) (length vs) (λ i. pick (bit (2 ^ length vs) i) (getD (vs ++ (m ∷ [])) i 0))
     (omega (arith, next-length vs m))
-    (λ k l d. ap (λ (t : Bool). pick t (getD (vs ++ (m ∷ [])) k 0)) (bit-power (length vs) k ∙ ne-eqb (length vs) k (λ e. d (sym e))) ∙ pick-false (getD (vs ++ (m ∷ [])) k 0))
+    (λ k l d. ap (λ (t : Bool). pick t (getD (vs ++ (m ∷ [])) k 0)) (bit-power (length vs) k ∙ ne-eqb (length vs) k (λ e. d (sym e)))
+    ∙ pick-false (getD (vs ++ (m ∷ [])) k 0))
     ∙ ap₂ pick (bit-leading (length vs) (2 ^ length vs) (omega arith) (omega (arith, pow-double (length vs), pow-pos (length vs)))) (getD-append-seam vs m [] 0)
     ∙ pick-true m
 

@@ -37,7 +37,8 @@ pub combined-more : (b c : List ℕ) (v y : ℕ) → lowered b v < v → combine
 unfolding combined
 combined-more b c zero y l = absurd (omega arith)
 combined-more b c (suc n) y l =
-    let e : gathered (suc n) b c (suc n) y ≡ gathered n b c (lowered b (suc n)) (y ⊕ getD c (top (suc n)) 0) = unfold gathered in rw (lt-ltb (lowered b (suc n)) (suc n) l) in
+    let e : gathered (suc n) b c (suc n) y ≡ gathered n b c (lowered b (suc n)) (y ⊕ getD c (top (suc n)) 0) =
+    unfold gathered in rw (lt-ltb (lowered b (suc n)) (suc n) l) in
     e ∙ gathered-enough n (lowered b (suc n)) b c (lowered b (suc n)) (y ⊕ getD c (top (suc n)) 0) (omega arith) (le-refl (lowered b (suc n)))
 
 pub combined-done : (b c : List ℕ) (v y : ℕ) → v ≤ lowered b v → combined b c v y ≡ y

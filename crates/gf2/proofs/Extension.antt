@@ -1,10 +1,10 @@
--- Laws of `extendedFrom` and `solverFrom` that follow the loops of `extend` and `solver_of`, at member i of a list:
+-- Laws of `solverFrom` that follow the loop of `solver_of`, at member i of a list:
 --
---   extend-stop, solver-stop   it reduces to 0
---   extend-next, solver-next   it does not
---   extend-end, solver-end     there is none
---   solver-full                there are 64 already
---   bit-is                     what the code's `1 << i` says
+--   solver-stop   it reduces to 0
+--   solver-next   it does not
+--   solver-end    there is none
+--   solver-full   there are 64 already
+--   bit-is        what the code's `1 << i` says
 --
 -- Assumes nothing.
 use mathlib.Core.Path.{_≡_, _∙_}
@@ -15,21 +15,8 @@ use borrow.Author.Tests.{eq-eqb, ne-eqb, le-leb, lt-leb}
 use lib.ListN.{length, getD, drop, set, drop-of-length-le}
 use lib.Pow.{shl-exact}
 use lib.Seq.{drop-cons}
-use Rattle.gf2.specs.Basis.{top, reduced, inserted, extendedFrom}
+use Rattle.gf2.specs.Basis.{top, reduced, inserted}
 use Rattle.gf2.specs.Solver.{combined, solverFrom}
-
-pub extend-stop : (ms b : List ℕ) (i : ℕ) → i < length ms → reduced b (getD ms i 0) ≡ 0 → extendedFrom (drop i ms) b i ≡ record { basis = b; taken = i }
-unfolding extendedFrom
-extend-stop ms b i l e = rw (drop-cons ms i 0 l, eq-eqb (reduced b (getD ms i 0)) 0 e)
-
-pub extend-next :
-    (ms b : List ℕ) (i : ℕ) → i < length ms → (reduced b (getD ms i 0) ≡ 0 → ⊥)
-    → extendedFrom (drop i ms) b i ≡ extendedFrom (drop (suc i) ms) (inserted b (reduced b (getD ms i 0))) (suc i)
-extend-next ms b i l e = rw (drop-cons ms i 0 l) (unfold extendedFrom in rw (ne-eqb (reduced b (getD ms i 0)) 0 e))
-
-pub extend-end : (ms b : List ℕ) (i : ℕ) → length ms ≤ i → extendedFrom (drop i ms) b i ≡ record { basis = b; taken = i }
-unfolding extendedFrom
-extend-end ms b i l = rw (drop-of-length-le ms l)
 
 pub solver-full : (ms b c : List ℕ) (i : ℕ) → i < length ms → 64 ≤ i → solverFrom (drop i ms) b c i ≡ record { basis = b; combos = c }
 unfolding solverFrom

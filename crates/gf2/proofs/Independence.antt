@@ -2,13 +2,11 @@
 --
 --   spanned-chosen    a spanned number is the sum of a choice of members
 --   chosen-spanned    the sum of a choice of members is spanned
---   spanned-zero                   0 is spanned
---   spanned-equal, free-equal      equal members with equal values give the same
 --   free-independent, independent-free    `free` is independence
 --
 -- Assumes nothing.
 use mathlib.Core.Path.{_≡_, refl, sym, ap, ap₂, _∙_}
-use mathlib.Core.Bool.{Bool, true, false, _&&_, _||_, not, cond}
+use mathlib.Core.Bool.{Bool, true, false, _&&_, not, cond}
 use mathlib.Core.Logic.{⊎-elim}
 use Prim.Native.Nat.{ℕ, zero, suc, _<_}
 use native.Mathlib.Nat.{lt-suc-self}
@@ -17,7 +15,7 @@ use native.Mathlib.Omega.{arith}
 use borrow.Author.Tests.{eqb-true, eq-eqb, ne-eqb}
 use lib.Dec.{eqb}
 use Rattle.gf2.specs.Xor.{_⊕_, pick}
-use Rattle.gf2.specs.Sum.{xorSum, chosenSum}
+use Rattle.gf2.specs.Sum.{chosenSum}
 use Rattle.gf2.specs.Independence.{Within, Independent, spanned, free}
 use Rattle.finite.proofs.Truth.{never, both, either, or-left, or-right, not-true}
 use Rattle.gf2.proofs.Xor.{xor-zero-right, xor-self, xor-back, xor-cancel}
@@ -77,6 +75,17 @@ spanned-chosen (suc n) member f x e =
     ))
     (either (spanned n member f x) (member n && spanned n member f (x ⊕ f n)) e)
 
+-- the last one is chosen, or it is not
+chosen-in : (n : ℕ) (m : ℕ → Bool) (f : ℕ → ℕ) → m n ≡ true → chosenSum (suc n) m f ≡ chosenSum n m f ⊕ f n
+chosen-in n m f p =
+    sum-next n (λ k. pick (m k) (f k))
+    ∙ ap (λ (x : ℕ). chosenSum n m f ⊕ x) (ap (λ (b : Bool). pick b (f n)) p ∙ pick-true (f n))
+
+chosen-out : (n : ℕ) (m : ℕ → Bool) (f : ℕ → ℕ) → m n ≡ false → chosenSum (suc n) m f ≡ chosenSum n m f
+chosen-out n m f p =
+    sum-next n (λ k. pick (m k) (f k))
+    ∙ ap (λ (x : ℕ). chosenSum n m f ⊕ x) (ap (λ (b : Bool). pick b (f n)) p ∙ pick-false (f n)) ∙ xor-zero-right (chosenSum n m f)
+
 pub chosen-spanned :
     (n : ℕ) (member : ℕ → Bool) (f : ℕ → ℕ) (x : ℕ) (m : ℕ → Bool) → Within m member → chosenSum n m f ≡ x
     → spanned n member f x ≡ true
@@ -86,47 +95,11 @@ chosen-spanned (suc n) member f x m w e = go (m n) refl (λ y. chosen-spanned n 
   where
     go : (t : Bool) → m n ≡ t → ((y : ℕ) → chosenSum n m f ≡ y → spanned n member f y ≡ true) → spanned (suc n) member f x ≡ true
     go true p ih =
-        let s : xorSum n (λ k. pick (m k) (f k)) ⊕ f n ≡ x = ap (λ (a : ℕ). xorSum n (λ k. pick (m k) (f k)) ⊕ a) (sym (ap (λ (b : Bool). pick b (f n)) p ∙ pick-true (f n))) ∙ sym (sum-next n (λ k. pick (m k) (f k))) ∙ e in
+        let s : chosenSum n m f ⊕ f n ≡ x = sym (chosen-in n m f p) ∙ e in
         or-right (spanned n member f x) (member n && spanned n member f (x ⊕ f n))
-        (rw (w n p, ih (x ⊕ f n) (sym (xor-back (xorSum n (λ k. pick (m k) (f k))) (f n)) ∙ ap (λ (a : ℕ). a ⊕ f n) s)))
+        (rw (w n p, ih (x ⊕ f n) (sym (xor-back (chosenSum n m f) (f n)) ∙ ap (λ (a : ℕ). a ⊕ f n) s)))
     go false p ih =
-        let s : xorSum n (λ k. pick (m k) (f k)) ≡ x = sym (sum-next n (λ k. pick (m k) (f k)) ∙ ap (λ (b : Bool). xorSum n (λ k. pick (m k) (f k)) ⊕ pick b (f n)) p ∙ ap (λ (a : ℕ). xorSum n (λ k. pick (m k) (f k)) ⊕ a) (pick-false (f n)) ∙ xor-zero-right (xorSum n (λ k. pick (m k) (f k)))) ∙ e in
-        or-left (spanned n member f x) (member n && spanned n member f (x ⊕ f n)) (ih x s)
-
-pub spanned-zero : (n : ℕ) (member : ℕ → Bool) (f : ℕ → ℕ) → spanned n member f 0 ≡ true
-unfolding spanned
-spanned-zero zero member f = refl
-spanned-zero (suc n) member f = or-left (spanned n member f 0) (member n && spanned n member f (0 ⊕ f n)) (spanned-zero n member f)
-
-pub spanned-equal :
-    (n : ℕ) (member member′ : ℕ → Bool) (f f′ : ℕ → ℕ) → ((k : ℕ) → k < n → member k ≡ member′ k)
-    → ((k : ℕ) → k < n → member k ≡ true → f k ≡ f′ k) → (x : ℕ) → spanned n member f x ≡ spanned n member′ f′ x
-unfolding spanned
-spanned-equal zero member member′ f f′ hm hf x = refl
-spanned-equal (suc n) member member′ f f′ hm hf x =
-    go (member n) (member′ n) (hm n (lt-suc-self n)) (hf n (lt-suc-self n))
-    (spanned-equal n member member′ f f′ (λ k l. hm k (omega arith)) (λ k l. hf k (omega arith)))
-  where
-    go : (a b : Bool) → a ≡ b → (a ≡ true → f n ≡ f′ n) → ((y : ℕ) → spanned n member f y ≡ spanned n member′ f′ y)
-        → (spanned n member f x || (a && spanned n member f (x ⊕ f n))) ≡ (spanned n member′ f′ x || (b && spanned n member′ f′ (x ⊕ f′ n)))
-    go true b e h ih = rw (← e, ih x, ih (x ⊕ f n), h refl)
-    go false b e h ih = rw (← e, ih x)
-
-pub free-equal :
-    (n : ℕ) (member member′ : ℕ → Bool) (f f′ : ℕ → ℕ) → ((k : ℕ) → k < n → member k ≡ member′ k)
-    → ((k : ℕ) → k < n → member k ≡ true → f k ≡ f′ k) → free n member f ≡ free n member′ f′
-unfolding free
-free-equal zero member member′ f f′ hm hf = refl
-free-equal (suc n) member member′ f f′ hm hf =
-    go (member n) (member′ n) (hm n (lt-suc-self n)) (hf n (lt-suc-self n))
-    (free-equal n member member′ f f′ (λ k l. hm k (omega arith)) (λ k l. hf k (omega arith)))
-    (spanned-equal n member member′ f f′ (λ k l. hm k (omega arith)) (λ k l. hf k (omega arith)))
-  where
-    go : (a b : Bool) → a ≡ b → (a ≡ true → f n ≡ f′ n) → free n member f ≡ free n member′ f′
-        → ((y : ℕ) → spanned n member f y ≡ spanned n member′ f′ y)
-        → (free n member f && not (a && spanned n member f (f n))) ≡ (free n member′ f′ && not (b && spanned n member′ f′ (f′ n)))
-    go true b e h ih sp = rw (← e, ih, sp (f n), h refl)
-    go false b e h ih sp = rw (← e, ih)
+        or-left (spanned n member f x) (member n && spanned n member f (x ⊕ f n)) (ih x (sym (chosen-out n m f p) ∙ e))
 
 pub free-independent : (n : ℕ) (member : ℕ → Bool) (f : ℕ → ℕ) → free n member f ≡ true → Independent n member f
 unfolding free
@@ -135,17 +108,13 @@ free-independent (suc n) member f h m w e k l =
     go (m n) refl (both (free n member f) (not (member n && spanned n member f (f n))) h) (ℕ-discrete k n)
     (λ p q. free-independent n member f p m w q k)
   where
-    next : (t : Bool) → m n ≡ t → xorSum n (λ k. pick (m k) (f k)) ⊕ pick t (f n) ≡ 0
-    next t p = ap (λ (b : Bool). xorSum n (λ k. pick (m k) (f k)) ⊕ pick b (f n)) (sym p) ∙ sym (sum-next n (λ k. pick (m k) (f k))) ∙ e
-
     go : (t : Bool) → m n ≡ t → (free n member f ≡ true) × (not (member n && spanned n member f (f n)) ≡ true) → Dec (k ≡ n)
         → (free n member f ≡ true → chosenSum n m f ≡ 0 → k < n → m k ≡ false) → m k ≡ false
     go true p b d ih =
         absurd (never (not (member n && spanned n member f (f n))) (b .1)
-        (rw (w n p, chosen-spanned n member f (f n) m w (xor-cancel (xorSum n (λ k. pick (m k) (f k))) (f n) (ap (λ (a : ℕ). xorSum n (λ k. pick (m k) (f k)) ⊕ a) (sym (pick-true (f n))) ∙ next true p)))))
+        (rw (w n p, chosen-spanned n member f (f n) m w (xor-cancel (chosenSum n m f) (f n) (sym (chosen-in n m f p) ∙ e)))))
     go false p b (yes q) ih = ap m q ∙ p
-    go false p b (no q) ih =
-        ih (b .0) (sym (xor-zero-right (xorSum n (λ k. pick (m k) (f k)))) ∙ ap (λ (a : ℕ). xorSum n (λ k. pick (m k) (f k)) ⊕ a) (sym (pick-false (f n))) ∙ next false p) (omega arith)
+    go false p b (no q) ih = ih (b .0) (sym (chosen-out n m f p) ∙ e) (omega arith)
 
 pub independent-free : (n : ℕ) (member : ℕ → Bool) (f : ℕ → ℕ) → Independent n member f → free n member f ≡ true
 unfolding free

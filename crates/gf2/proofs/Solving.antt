@@ -3,7 +3,6 @@
 --   solver-for         for at most 64 free vectors below 2 ^ 64, the solver's words are a basis, and its combinations make them
 --   solver-solves      then `solved` with these words and combinations is `solution`
 --   solution-found     the solution of a spanned target makes the target, and is below 2 ^ the number of vectors
---   solution-outside   a target that is not spanned has none
 --
 -- Assumes nothing.
 use mathlib.Core.Path.{_≡_, refl, sym, ap, _∙_}
@@ -21,7 +20,7 @@ use lib.Seq.{getD-set-same, getD-set-other, append-snoc}
 use Rattle.gf2.specs.Xor.{_⊕_}
 use Rattle.finite.specs.Search.{least}
 use Rattle.gf2.specs.Vectors.{spans, freeFrom}
-use Rattle.gf2.specs.Basis.{top, reduced, inserted, Below, BasisOf}
+use Rattle.gf2.specs.Basis.{top, reduced, inserted}
 use Rattle.gf2.specs.Solver.{combination, combined, solved, solverFrom, solverOf, solution}
 use Rattle.gf2.specs.declared.Solution.the-variants.{Combination, Outside}
 use Rattle.finite.proofs.Truth.{both}
@@ -30,7 +29,7 @@ use Rattle.finite.proofs.Search.{least-is}
 use Rattle.gf2.proofs.Spans.{spans-turned}
 use Rattle.gf2.proofs.Vectors.{free-more}
 use Rattle.gf2.proofs.Triangle.{pow-double}
-use Rattle.gf2.proofs.Basis.{basis-empty, basis-reduces, basis-inserted, left-place}
+use Rattle.gf2.proofs.Basis.{Below, BasisOf, basis-empty, basis-reduces, basis-inserted, left-place}
 use Rattle.gf2.proofs.Combination.{combination-zero, combination-kept, combination-last, combination-only, next-length}
 use Rattle.gf2.proofs.Combined.{Makes, combined-sum, combined-below}
 
@@ -56,41 +55,53 @@ solver-empty = record {
 
 -- one vector more
 module _ {vs b c : List ℕ} (S : SolverFor vs b c) (m : ℕ) (below : m < 2 ^ 64) (ne : reduced b m ≡ 0 → ⊥) where
-  makes-kept : Makes (vs ++ (m ∷ [])) b c
+  abbrev more : List ℕ
+  more = vs ++ (m ∷ [])
+
+  -- what is left of m, its place, and the combination that makes it
+  abbrev left : ℕ
+  left = reduced b m
+
+  abbrev place : ℕ
+  place = top (reduced b m)
+
+  abbrev combo : ℕ
+  combo = combined b c m (2 ^ length vs)
+
+  makes-kept : Makes more b c
   makes-kept k = combination-kept vs m (getD c k 0) (S .small k) ∙ S .makes k
 
-  makes-last : combination (vs ++ (m ∷ [])) (combined b c m (2 ^ length vs)) ≡ reduced b m
+  makes-last : combination more combo ≡ left
   makes-last =
-      xor-cancel (combination (vs ++ (m ∷ [])) (combined b c m (2 ^ length vs))) (reduced b m)
-      (combined-sum (vs ++ (m ∷ [])) b c m (2 ^ length vs) makes-kept ∙ ap (λ (x : ℕ). x ⊕ m) (combination-last vs m) ∙ xor-self m)
+      xor-cancel (combination more combo) left
+      (combined-sum more b c m (2 ^ length vs) makes-kept ∙ ap (λ (x : ℕ). x ⊕ m) (combination-last vs m) ∙ xor-self m)
 
-  below-next : (y : ℕ) → y ≤ 2 ^ length vs → y < 2 ^ length (vs ++ (m ∷ []))
+  below-next : (y : ℕ) → y ≤ 2 ^ length vs → y < 2 ^ length more
   below-next y l = rw (next-length vs m, pow-double (length vs)) (omega (arith, pow-pos (length vs)))
 
-  solver-step : SolverFor (vs ++ (m ∷ [])) (inserted b (reduced b m)) (set c (top (reduced b m)) (combined b c m (2 ^ length vs)))
+  solver-step : SolverFor more (inserted b left) (set c place combo)
   unfolding inserted
   solver-step =
       let p = left-place (S .basis) m below ne in
       record {
         basis = rw (reverseAux-append vs (m ∷ []) []) (basis-inserted (S .basis) m below ne);
-        size = length-set c (top (reduced b m)) (combined b c m (2 ^ length vs)) ∙ S .size;
-        makes = λ k. made k (p .inside) (ℕ-discrete k (top (reduced b m)));
-        small = λ k. low k (p .inside) (ℕ-discrete k (top (reduced b m)));
+        size = length-set c place combo ∙ S .size;
+        makes = λ k. made k (p .inside) (ℕ-discrete k place);
+        small = λ k. low k (p .inside) (ℕ-discrete k place);
       }
     where
-      made : (k : ℕ) → top (reduced b m) < 64 → Dec (k ≡ top (reduced b m))
-          → combination (vs ++ (m ∷ [])) (getD (set c (top (reduced b m)) (combined b c m (2 ^ length vs))) k 0) ≡ getD (set b (top (reduced b m)) (reduced b m)) k 0
+      made : (k : ℕ) → place < 64 → Dec (k ≡ place) → combination more (getD (set c place combo) k 0) ≡ getD (set b place left) k 0
       made k l (yes e) =
-          rw (e, getD-set-same c (top (reduced b m)) (combined b c m (2 ^ length vs)) 0 (omega (arith, S .size)), getD-set-same b (top (reduced b m)) (reduced b m) 0 (omega (arith, S .basis .size)))
+          rw (e, getD-set-same c place combo 0 (omega (arith, S .size)), getD-set-same b place left 0 (omega (arith, S .basis .size)))
           makes-last
-      made k l (no d) = rw (getD-set-other c (top (reduced b m)) k (combined b c m (2 ^ length vs)) 0 d, getD-set-other b (top (reduced b m)) k (reduced b m) 0 d) (makes-kept k)
+      made k l (no d) = rw (getD-set-other c place k combo 0 d, getD-set-other b place k left 0 d) (makes-kept k)
 
-      low : (k : ℕ) → top (reduced b m) < 64 → Dec (k ≡ top (reduced b m))
-          → getD (set c (top (reduced b m)) (combined b c m (2 ^ length vs))) k 0 < 2 ^ length (vs ++ (m ∷ []))
+      low : (k : ℕ) → place < 64 → Dec (k ≡ place) → getD (set c place combo) k 0 < 2 ^ length more
       low k l (yes e) =
-          rw (e, getD-set-same c (top (reduced b m)) (combined b c m (2 ^ length vs)) 0 (omega (arith, S .size)))
-          (combined-below (length (vs ++ (m ∷ []))) b c m (2 ^ length vs) (λ j. below-next (getD c j 0) (omega (arith, S .small j))) (below-next (2 ^ length vs) (omega arith)))
-      low k l (no d) = rw (getD-set-other c (top (reduced b m)) k (combined b c m (2 ^ length vs)) 0 d) (below-next (getD c k 0) (omega (arith, S .small k)))
+          rw (e, getD-set-same c place combo 0 (omega (arith, S .size)))
+          (combined-below (length more) b c m (2 ^ length vs) (λ j. below-next (getD c j 0) (omega (arith, S .small j)))
+          (below-next (2 ^ length vs) (omega arith)))
+      low k l (no d) = rw (getD-set-other c place k combo 0 d) (below-next (getD c k 0) (omega (arith, S .small k)))
 
 solver-from :
     (ms : List ℕ) {vs b c : List ℕ} (i : ℕ) → SolverFor vs b c → i ≡ length vs → i + length ms ≤ 64 → Below 64 ms
@@ -148,7 +159,3 @@ module _ (vs : List ℕ) (few : length vs ≤ 64) (below : Below 64 vs) (f : fre
   pub solution-found : spans vs target ≡ true → (y : ℕ) × (solution vs target ≡ Combination y) × (y < 2 ^ length vs) × (combination vs y ≡ target)
   unfolding solution
   solution-found e = (answer, rw (e, answer-least e), answer-below, answer-makes e)
-
-pub solution-outside : (vs : List ℕ) (target : ℕ) → spans vs target ≡ false → solution vs target ≡ Outside
-unfolding solution
-solution-outside vs target e = rw e

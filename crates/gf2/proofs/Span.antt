@@ -22,11 +22,11 @@ use lib.Pow.{pow-mono}
 use lib.Seq.{getD-set-same, getD-set-other, getD-at}
 use Rattle.gf2.specs.Independence.{spanned, free}
 use Rattle.gf2.specs.Vectors.{spans, freeFrom, listed}
-use Rattle.gf2.specs.Basis.{top, reduced, inserted, Below, BasisOf}
+use Rattle.gf2.specs.Basis.{top, reduced, inserted}
 use Rattle.finite.proofs.Truth.{both}
 use Rattle.gf2.proofs.Vectors.{free-more, free-listed, spanned-listed, listed-length, listed-in}
 use Rattle.gf2.proofs.Reduction.{reduced-le}
-use Rattle.gf2.proofs.Basis.{basis-empty, left-place, left-free, basis-reduces, basis-inserted}
+use Rattle.gf2.proofs.Basis.{Below, BasisOf, basis-empty, left-place, left-free, basis-reduces, basis-inserted}
 
 -- how many of the first n places are not 0
 filled : ℕ → List ℕ → ℕ
@@ -70,7 +70,8 @@ filled-more zero b k r l u z ne = absurd (omega arith)
 filled-more (suc n) b k r l u z ne = go (ℕ-discrete n k) (λ q. filled-more n b k r q u z ne)
   where
     go : Dec (n ≡ k) → (k < n → filled n (set b k r) ≡ suc (filled n b))
-        → cond (eqb (getD (set b k r) n 0) 0) (filled n (set b k r)) (suc (filled n (set b k r))) ≡ suc (cond (eqb (getD b n 0) 0) (filled n b) (suc (filled n b)))
+        → cond (eqb (getD (set b k r) n 0) 0) (filled n (set b k r)) (suc (filled n (set b k r)))
+        ≡ suc (cond (eqb (getD b n 0) 0) (filled n b) (suc (filled n b)))
     go (yes e) ih = rw (e, getD-set-same b k r 0 u, ne-eqb r 0 ne, z, filled-past k b k r (omega arith))
     go (no d) ih = rw (getD-set-other b k n r 0 d, ih (omega arith)) (split (eqb (getD b n 0) 0))
       where

@@ -47,7 +47,8 @@ spans-xor (v ∷ vs) x y p q =
     (either (spans vs y) (spans vs (y ⊕ v)) q))
     (λ a. ⊎-elim
     (λ b. or-right (spans vs (x ⊕ y)) (spans vs ((x ⊕ y) ⊕ v)) (ap (spans vs) (sym (move x y v)) ∙ spans-xor vs (x ⊕ v) y a b))
-    (λ b. or-left (spans vs (x ⊕ y)) (spans vs ((x ⊕ y) ⊕ v)) (ap (spans vs) (sym (xor-back (x ⊕ y) v) ∙ ap (λ (w : ℕ). w ⊕ v) (sym (move x y v)) ∙ xor-assoc (x ⊕ v) y v) ∙ spans-xor vs (x ⊕ v) (y ⊕ v) a b))
+    (λ b. or-left (spans vs (x ⊕ y)) (spans vs ((x ⊕ y) ⊕ v))
+    (ap (spans vs) (sym (xor-back (x ⊕ y) v) ∙ ap (λ (w : ℕ). w ⊕ v) (sym (move x y v)) ∙ xor-assoc (x ⊕ v) y v) ∙ spans-xor vs (x ⊕ v) (y ⊕ v) a b))
     (either (spans vs y) (spans vs (y ⊕ v)) q))
     (either (spans vs x) (spans vs (x ⊕ v)) p)
 

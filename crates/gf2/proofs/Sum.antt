@@ -61,7 +61,9 @@ sum-single (suc n) a f la h = go (ℕ-discrete n a) (λ l. sum-single n a f l (�
     go (no ne) ih = ap₂ _⊕_ (ih (omega arith)) (h n (lt-suc-self n) ne) ∙ xor-zero-right (f a)
 
 pub sum-split : (a b : ℕ) (f : ℕ → ℕ) → xorSum (a + b) f ≡ xorSum a f ⊕ xorSum b (λ k. f (a + k))
-sum-split a zero f = ap (λ (n : ℕ). xorSum n f) (add-zero a) ∙ sym (xor-zero-right (xorSum a f)) ∙ ap (λ (x : ℕ). xorSum a f ⊕ x) (sym (sum-none (λ k. f (a + k))))
+sum-split a zero f =
+    ap (λ (n : ℕ). xorSum n f) (add-zero a) ∙ sym (xor-zero-right (xorSum a f))
+    ∙ ap (λ (x : ℕ). xorSum a f ⊕ x) (sym (sum-none (λ k. f (a + k))))
 sum-split a (suc b) f =
     ap (λ (n : ℕ). xorSum n f) (add-suc a b) ∙ sum-next (a + b) f ∙ ap (λ (x : ℕ). x ⊕ f (a + b)) (sum-split a b f)
     ∙ xor-assoc (xorSum a f) (xorSum b (λ k. f (a + k))) (f (a + b)) ∙ ap (λ (x : ℕ). xorSum a f ⊕ x) (sym (sum-next b (λ k. f (a + k))))

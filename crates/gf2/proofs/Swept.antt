@@ -1,37 +1,40 @@
 -- Laws of `swept`.
 --
---   swept-xor       it is linear
+--   SweepOf vs ws   the words ws take off exactly what vs span
+--   min-xor         taking a word off where that makes a number smaller is linear
+--   swept-xor       so is `swept`
 --   swept-append    by one word more
+--   swept-more      by one word more of the first ones
 --   swept-next, swept-end    by the words from place i on, as a loop goes
 --   sweep-none      no words take off what no vectors span
 --   sweep-more      a vector as the words leave it is the word that is missing for it
 --   sweep-kept      the words kept of a list take off what the list spans
---   swept-taken     vectors after others: count them as the words of the others leave them
---   swept-free      and so for being free
+--   swept-free      vectors after others are free where they are as the words of the others leave them
 --
 -- Assumes nothing.
 use mathlib.Core.Path.{_≡_, refl, sym, ap, ap₂, _∙_}
-use mathlib.Core.Bool.{Bool, _||_, cond}
+use mathlib.Core.Bool.{Bool, _||_}
 use mathlib.Core.List.{List, [], _∷_, _++_, reverseAux, map}
 use mathlib.Core.Logic.{⊎-elim}
 use Prim.Native.Nat.{ℕ, zero, suc, _+_, _*_, _/_, _%_, _^_, _≤_, _<_, min}
 use native.Mathlib.Nat.{mod-lt, zero-lt-suc, eq-zero-or-pos, div-eq-of-lt-le}
 use native.Mathlib.Decide.{decLe}
+use native.Mathlib.Numerals.{add-one}
 use native.Mathlib.Omega.{arith}
 use lib.Bits as bits
 use lib.Bits.{bitXor, differ}
 use lib.Count.{leading-top}
 use lib.Dec.{eqb, eqb·suc-zero}
-use lib.ListN.{length, getD, drop, drop-of-length-le, length-map}
+use lib.ListN.{length, getD, take, drop, drop-of-length-le}
 use lib.Pow.{pow-pos, shr-mono}
 use lib.Seq.{drop-cons}
 use Rattle.gf2.specs.Xor.{_⊕_, pick}
-use Rattle.gf2.specs.Vectors.{spans, takenFrom, freeFrom}
+use Rattle.gf2.specs.Vectors.{spans, freeFrom}
 use Rattle.finite.specs.Search.{bit}
-use Rattle.gf2.specs.Swept.{swept, kept, SweepOf}
+use Rattle.gf2.specs.Swept.{swept, kept}
 use Rattle.gf2.proofs.Xor.{xor-swap, xor-zero-right, pick-differ, bit-xor}
 use Rattle.gf2.proofs.Independence.{pick-true, pick-false}
-use Rattle.gf2.proofs.Vectors.{taken-none, taken-more}
+use Rattle.gf2.proofs.Linear.{free-mapped}
 use Rattle.gf2.proofs.Triangle.{pow-double}
 
 below-power : (n : ℕ) → n < 2 ^ n
@@ -71,7 +74,7 @@ min-digit j w v l u = go (v / 2 ^ j % 2) refl (mod-lt (v / 2 ^ j) (zero-lt-suc 1
 min-self : (n : ℕ) → min n n ≡ n
 min-self n = omega arith
 
-min-xor : (w x y : ℕ) → min (x ⊕ y) ((x ⊕ y) ⊕ w) ≡ min x (x ⊕ w) ⊕ min y (y ⊕ w)
+pub min-xor : (w x y : ℕ) → min (x ⊕ y) ((x ⊕ y) ⊕ w) ≡ min x (x ⊕ w) ⊕ min y (y ⊕ w)
 min-xor w x y = ⊎-elim (λ e. rw e none) some (eq-zero-or-pos w)
   where
     none : min (x ⊕ y) ((x ⊕ y) ⊕ 0) ≡ min x (x ⊕ 0) ⊕ min y (y ⊕ 0)
@@ -95,13 +98,27 @@ unfolding swept
 swept-append [] r x = refl
 swept-append (w ∷ ws) r x = swept-append ws r (min x (x ⊕ w))
 
+-- one word more, also past the end
+swept-take : (ws : List ℕ) (i x : ℕ) → swept (take (i + 1) ws) x ≡ min (swept (take i ws) x) (swept (take i ws) x ⊕ getD ws i 0)
+unfolding swept
+swept-take ws i x = rw (add-one i) (go ws i x)
+  where
+    go : (ws : List ℕ) (i x : ℕ) → swept (take (suc i) ws) x ≡ min (swept (take i ws) x) (swept (take i ws) x ⊕ getD ws i 0)
+    go [] zero x = rw (xor-zero-right x) (sym (min-self x))
+    go [] (suc i) x = rw (xor-zero-right x) (sym (min-self x))
+    go (w ∷ ws) zero x = refl
+    go (w ∷ ws) (suc i) x = go ws i (min x (x ⊕ w))
+
+pub swept-more : (ws : List ℕ) (i x : ℕ) {s r : ℕ} → s ≡ swept (take i ws) x → r ≡ min s (s ⊕ getD ws i 0) → r ≡ swept (take (i + 1) ws) x
+swept-more ws i x e f = f ∙ ap (λ (y : ℕ). min y (y ⊕ getD ws i 0)) e ∙ sym (swept-take ws i x)
+
 pub swept-next : (ws : List ℕ) (i x : ℕ) → i < length ws → swept (drop i ws) x ≡ swept (drop (suc i) ws) (min x (x ⊕ getD ws i 0))
 swept-next ws i x l = rw (drop-cons ws i 0 l) (unfold swept in refl)
 
 pub swept-end : (ws : List ℕ) (i x : ℕ) → length ws ≤ i → swept (drop i ws) x ≡ x
 swept-end ws i x l = rw (drop-of-length-le ws l) (unfold swept in refl)
 
-min-zero : (a b : ℕ) → eqb (min a b) 0 ≡ (eqb a 0 || eqb b 0)
+pub min-zero : (a b : ℕ) → eqb (min a b) 0 ≡ (eqb a 0 || eqb b 0)
 min-zero zero b = ap (λ (n : ℕ). eqb n 0) e
   where
     e : min 0 b ≡ 0
@@ -114,6 +131,9 @@ min-zero (suc a) (suc b) = ap (λ (n : ℕ). eqb n 0) e ∙ rw (eqb·suc-zero a,
   where
     e : min (suc a) (suc b) ≡ suc (min a b)
     e = omega arith
+
+abbrev pub SweepOf : List ℕ → List ℕ → Type 0
+SweepOf vs ws = (x : ℕ) → eqb (swept ws x) 0 ≡ spans vs x
 
 pub sweep-none : SweepOf [] []
 unfolding swept spans
@@ -130,23 +150,5 @@ unfolding kept
 sweep-kept [] vs ws h = h
 sweep-kept (m ∷ ms) vs ws h = sweep-kept ms (m ∷ vs) (ws ++ (swept ws m ∷ [])) (sweep-more vs ws m h)
 
--- what vectors us over vs span, as the words of vs leave it
-swept-spans : (us vs ws : List ℕ) → SweepOf vs ws → (x : ℕ) → spans (us ++ vs) x ≡ spans (map (swept ws) us) (swept ws x)
-unfolding spans
-swept-spans [] vs ws h x = sym (h x)
-swept-spans (u ∷ us) vs ws h x =
-    ap₂ _||_ (swept-spans us vs ws h x) (swept-spans us vs ws h (x ⊕ u) ∙ ap (spans (map (swept ws) us)) (swept-xor ws x u))
-
-taken-over : (ms us vs ws : List ℕ) → SweepOf vs ws → takenFrom (us ++ vs) ms ≡ takenFrom (map (swept ws) us) (map (swept ws) ms)
-taken-over [] us vs ws h = taken-none (us ++ vs) ∙ sym (taken-none (map (swept ws) us))
-taken-over (m ∷ ms) us vs ws h =
-    taken-more (us ++ vs) m ms
-    ∙ ap₂ (λ (t : Bool) (n : ℕ). cond t 0 (suc n)) (swept-spans us vs ws h m) (taken-over ms (m ∷ us) vs ws h)
-    ∙ sym (taken-more (map (swept ws) us) (swept ws m) (map (swept ws) ms))
-
-pub swept-taken : (ms vs ws : List ℕ) → SweepOf vs ws → takenFrom vs ms ≡ takenFrom [] (map (swept ws) ms)
-swept-taken ms vs ws h = taken-over ms [] vs ws h
-
 pub swept-free : (ms vs ws : List ℕ) → SweepOf vs ws → freeFrom vs ms ≡ freeFrom [] (map (swept ws) ms)
-unfolding freeFrom
-swept-free ms vs ws h = ap₂ eqb (swept-taken ms vs ws h) (sym (length-map ms (swept ws)))
+swept-free ms vs ws h = free-mapped (swept ws) (swept-xor ws) vs h ms

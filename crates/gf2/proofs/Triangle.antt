@@ -1,5 +1,6 @@
 -- Families in which value k is 0 or has k as its leading digit.
 --
+--   Word k w        w may stand at place k
 --   xor-clears      two numbers with the same leading digit: their exclusive-or does not reach it
 --   spanned-below   a bound by a power of two
 --   spanned-down    a spanned number below 2 ^ n is spanned by the first n values
@@ -11,7 +12,7 @@
 use mathlib.Core.Path.{_≡_, refl, sym, ap, ap₂, _∙_}
 use mathlib.Core.Bool.{Bool, true, _||_, or-self}
 use mathlib.Core.List.{List, [], _++_, reverseAux, append-nil}
-use mathlib.Core.Logic.{⊎-elim}
+use mathlib.Core.Logic.{_⊎_, ⊎-elim}
 use Prim.Native.Nat.{ℕ, zero, suc, _+_, _*_, _-_, _^_, _≤_, _<_}
 use native.Mathlib.Nat.{lt-suc-self, add-zero, add-suc}
 use native.Mathlib.Omega.{arith}
@@ -22,13 +23,15 @@ use lib.Seq.{take-all}
 use Rattle.gf2.specs.Xor.{_⊕_, pick}
 use Rattle.gf2.specs.Independence.{spanned}
 use Rattle.gf2.specs.Vectors.{spans, listed, part}
-use Rattle.gf2.specs.Basis.{Word}
 use Rattle.finite.proofs.Truth.{either}
 use Rattle.gf2.proofs.Xor.{xor-again, xor-below, xor-zero-right, pick-below}
 use Rattle.gf2.proofs.Sum.{sum-below}
 use Rattle.gf2.proofs.Independence.{spanned-chosen}
 use Rattle.gf2.proofs.Vectors.{spanned-listed, listed-run, listed-none}
 use Rattle.gf2.proofs.Spans.{spans-turned}
+
+abbrev pub Word : ℕ → ℕ → Type 0
+Word k w = (w ≡ 0) ⊎ ((2 ^ k ≤ w) × (w < 2 ^ suc k))
 
 pub pow-double : (k : ℕ) → 2 ^ suc k ≡ 2 ^ k + 2 ^ k
 pow-double k = ap (λ (n : ℕ). 2 ^ n) e ∙ pow-add 2 k 1 ∙ omega arith
@@ -87,7 +90,10 @@ module _ (f : ℕ → ℕ) where
   spanned-top k x h l e z = omega (arith, words-below k x (λ j q. h j (omega arith)) (before e))
     where
       before : spanned (suc k) (λ j. true) f x ≡ true → spanned k (λ j. true) f x ≡ true
-      before p = unfold spanned in sym (or-self (spanned k (λ j. true) f x)) ∙ ap (λ (a : ℕ). spanned k (λ j. true) f x || spanned k (λ j. true) f a) (sym (xor-zero-right x) ∙ ap (λ (a : ℕ). x ⊕ a) (sym z)) ∙ p
+      before p =
+          unfold spanned in
+          sym (or-self (spanned k (λ j. true) f x))
+          ∙ ap (λ (a : ℕ). spanned k (λ j. true) f x || spanned k (λ j. true) f a) (sym (xor-zero-right x) ∙ ap (λ (a : ℕ). x ⊕ a) (sym z)) ∙ p
 
 -- the elements of a list, listed
 pub listed-list : (n : ℕ) (b : List ℕ) → length b ≡ n → listed n (λ k. true) (λ k. getD b k 0) ≡ b

@@ -10,13 +10,13 @@
 --   spanned-listed, free-listed   `spanned` and `free` are `spans` and `freeFrom` of the list
 --   taken-least     where all are members, the first that is spanned by those before it is counted
 --   free-least      and all are free where there is none
---   free-two-runs   the members of two runs of a table
+--   run-before, run-after   places that are not in a run
 --
 -- Assumes nothing.
 use mathlib.Core.Path.{_≡_, refl, sym, ap, ap₂, _∙_}
 use mathlib.Core.Bool.{Bool, true, false, _&&_, _||_, not, cond, and-assoc, and-true, and-false, or-false}
 use mathlib.Core.List.{List, [], _∷_, _++_, reverseAux, append-nil, append-assoc, reverseAux-append}
-use Prim.Native.Nat.{ℕ, zero, suc, _+_, _-_, _≤_, _<_, max}
+use Prim.Native.Nat.{ℕ, zero, suc, _+_, _-_, _≤_, _<_}
 use native.Mathlib.Nat.{lt-suc-self, add-zero, add-suc}
 use native.Mathlib.Omega.{arith}
 use borrow.Author.Tests.{lt-leb, le-ltb}
@@ -28,7 +28,6 @@ use Rattle.gf2.specs.Independence.{spanned, free}
 use Rattle.finite.specs.Search.{least, within}
 use Rattle.gf2.specs.Vectors.{spans, takenFrom, freeFrom, listed, part}
 use Rattle.finite.proofs.Search.{least-last}
-use Rattle.finite.proofs.Truth.{in-within}
 
 pub free-none : (vs : List ℕ) → freeFrom vs [] ≡ true
 unfolding freeFrom takenFrom
@@ -165,9 +164,12 @@ free-listed zero member f = sym (free-none [])
 free-listed (suc n) member f = rw (free-append (listed n member f) [] (cond (member n) (f n ∷ []) [])) (go (member n) (free-listed n member f))
   where
     go : (t : Bool) → free n member f ≡ freeFrom [] (listed n member f)
-        → (free n member f && not (t && spanned n member f (f n))) ≡ (freeFrom [] (listed n member f) && freeFrom (reverseAux (listed n member f) []) (cond t (f n ∷ []) []))
-    go true ih = rw (ih, free-more (reverseAux (listed n member f) []) (f n) [], free-none (f n ∷ reverseAux (listed n member f) []), spanned-listed n member f (f n))
-        (ap (λ (b : Bool). freeFrom [] (listed n member f) && b) (sym (and-true (not (spans (reverseAux (listed n member f) []) (f n))))))
+        → (free n member f && not (t && spanned n member f (f n)))
+        ≡ (freeFrom [] (listed n member f) && freeFrom (reverseAux (listed n member f) []) (cond t (f n ∷ []) []))
+    go true ih =
+        let vs = reverseAux (listed n member f) [] in
+        rw (ih, free-more vs (f n) [], free-none (f n ∷ vs), spanned-listed n member f (f n))
+        (ap (λ (b : Bool). freeFrom [] (listed n member f) && b) (sym (and-true (not (spans vs (f n))))))
     go false ih = rw (ih, free-none (reverseAux (listed n member f) []))
 
 pub taken-least : (n : ℕ) (f : ℕ → ℕ) → takenFrom [] (listed n (λ k. true) f) ≡ least n (λ k. spanned k (λ j. true) f (f k))
@@ -179,7 +181,8 @@ taken-least (suc n) f =
     ∙ sym (least-last n (λ k. spanned k (λ j. true) f (f k)))
   where
     last : (t : Bool) → takenFrom [] (listed n (λ k. true) f) ≡ least n (λ k. spanned k (λ j. true) f (f k))
-        → cond (freeFrom [] (listed n (λ k. true) f)) (n + cond t 0 (suc (takenFrom (f n ∷ reverseAux (listed n (λ k. true) f) []) []))) (takenFrom [] (listed n (λ k. true) f))
+        → cond (freeFrom [] (listed n (λ k. true) f)) (n + cond t 0 (suc (takenFrom (f n ∷ reverseAux (listed n (λ k. true) f) []) [])))
+        (takenFrom [] (listed n (λ k. true) f))
         ≡ cond (eqb (least n (λ k. spanned k (λ j. true) f (f k))) n) (cond t n (suc n)) (least n (λ k. spanned k (λ j. true) f (f k)))
     last t ih =
         unfold freeFrom in
@@ -197,25 +200,6 @@ run-before a m k l = rw (lt-leb a k l)
 pub run-after : (a m k : ℕ) → a + m ≤ k → within a m k ≡ false
 unfolding within
 run-after a m k l = rw (le-ltb k (a + m) l) (and-false (leb a k))
-
-pub free-two-runs :
-    (n a a′ m : ℕ) (member : ℕ → Bool) (f : ℕ → ℕ) (t : List ℕ) → a ≤ a′ → a′ + m ≤ n → n ≤ length t
-    → ((k : ℕ) → k < n → member k ≡ (within a m k || within a′ m k)) → ((k : ℕ) → k < n → f k ≡ getD t k 0)
-    → free n member f ≡ freeFrom [] (part a (a + m) t ++ part (max (a + m) a′) (a′ + m) t)
-free-two-runs n a a′ m member f t l u w h g =
-    free-listed n member f
-    ∙ ap (freeFrom [])
-    (listed-skip (a′ + m) n member f u (λ k p q. h k q ∙ ap₂ _||_ (run-after a m k (omega arith)) (run-after a′ m k p))
-    ∙ listed-run (max (a + m) a′) (a′ + m) member f t (omega arith) (omega arith)
-    (λ k p q. h k (omega arith) ∙ ap₂ _||_ (run-after a m k (omega arith)) (in-within a′ m k (omega arith) q)) (λ k p q. g k (omega arith))
-    ∙ ap (λ (s : List ℕ). s ++ part (max (a + m) a′) (a′ + m) t)
-    (listed-skip (a + m) (max (a + m) a′) member f (omega arith)
-    (λ k p q. h k (omega arith) ∙ ap₂ _||_ (run-after a m k p) (run-before a′ m k (omega arith)))
-    ∙ listed-run a (a + m) member f t (omega arith) (omega arith)
-    (λ k p q. h k (omega arith) ∙ ap (λ (b : Bool). b || within a′ m k) (in-within a m k p q)) (λ k p q. g k (omega arith))
-    ∙ ap (λ (s : List ℕ). s ++ part a (a + m) t)
-    (listed-skip 0 a member f (omega arith) (λ k p q. h k (omega arith) ∙ ap₂ _||_ (run-before a m k q) (run-before a′ m k (omega arith)))
-    ∙ listed-none member f)))
 
 pub free-least : (n : ℕ) (f : ℕ → ℕ) → free n (λ k. true) f ≡ eqb (least n (λ k. spanned k (λ j. true) f (f k))) n
 free-least n f = free-listed n (λ k. true) f ∙ (unfold freeFrom in rw (taken-least n f, listed-length n f))

@@ -6,3 +6,4 @@ pub mod Vectors
 pub mod Basis
 pub mod Solver
 pub mod Swept
+pub mod Powers

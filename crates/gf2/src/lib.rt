@@ -1,63 +1,27 @@
 // Linear algebra over the field of two elements, on numbers of up to 64 bits. It knows nothing of sheets and plans.
 //
-// Three forms of what some vectors span:
-//   a basis, an array of 64 words, of which word k is 0 or has digit k as its leading digit (reduce, extend; proofs/Basis.antt);
-//   a basis with the combination of vectors that makes each word (solver_of, solve; proofs/Solving.antt);
-//   words in the order of the vectors, the quickest for a few vectors (sweep, keep, count_free; proofs/Swept.antt, Keeping.antt).
+// Two forms of what some vectors span, each a set of 64 words:
+//   words in the order of the vectors, each as those before leave it (sweep, keep; proofs/Swept.antt, Keeping.antt): are they independent?
+//   words by leading digit, with the combination of vectors that makes each (find_combination; proofs/Basis.antt, Solving.antt): which of
+//   them sum to a target?
+// And tables of powers (powers).
+pub mod powers;
+
 ghost use mathlib.Core.Path.{_≡_};
-ghost use Prim.Native.Nat.{_≤_, min};
-ghost use lib.ListN.{length};
+ghost use mathlib.Core.Bool.{true};
 ghost use mathlib.Core.List.{[]};
-ghost use Rattle.gf2.specs.Vectors.{takenFrom};
-ghost use Rattle.gf2.specs.Basis.{emptyWords, reduced, extended};
-ghost use Rattle.gf2.specs.Solver.{combined, solved, solverOf};
-ghost use Rattle.gf2.specs.Swept.{swept, sweptTwo, KeptOf};
+ghost use Prim.Native.Nat.{_≤_, _<_, min};
+ghost use lib.ListN.{length, take};
+ghost use Rattle.gf2.specs.Vectors.{freeFrom};
+ghost use Rattle.gf2.specs.Basis.{emptyWords, reduced};
+ghost use Rattle.gf2.specs.Solver.{solution, combined, solved, solverOf};
+ghost use Rattle.gf2.specs.Swept.{swept, evenUp, KeptOf};
 
-// A basis after some vectors, and how many of them it took in before the first that it spanned already.
-pub struct Extended {
-    pub basis: [u64; 64],
-    pub taken: usize,
-}
-
-// What is left of v: the word at its leading digit is taken off as long as that makes it smaller. 0 where the basis spans v.
-pub fn reduce(basis: &[u64; 64], v: u64) -> u64
-    ensures { λ r. ⌜ r ≡ reduced (now (basis .entry)) v ⌝ }
-{
-    let mut left = v;
-    while left != 0 {
-        let k = (63 - u64::leading_zeros(left)) as usize;
-        let next = left ^ basis[k];
-        if left <= next {
-            return left;
-        }
-        left = next;
-    }
-    left
-}
-
-// The basis of no vectors.
+// The words of no vectors.
 pub fn empty_basis() -> [u64; 64]
     ensures { λ r. ⌜ r ≡ emptyWords ⌝ }
 {
     [0u64; 64]
-}
-
-// The basis with the members put in, one after another, up to the first that is spanned already.
-pub fn extend(basis: [u64; 64], members: &[u64]) -> Extended
-    ensures { λ r. ⌜ r ≡ extended basis (now (members .entry)) ⌝ }
-{
-    let mut b = basis;
-    let mut i = 0;
-    while i < members.len() {
-        let v = reduce(&b, members[i]);
-        if v == 0 {
-            return Extended { basis: b, taken: i };
-        }
-        let k = (63 - u64::leading_zeros(v)) as usize;
-        b[k] = v;
-        i += 1;
-    }
-    Extended { basis: b, taken: i }
 }
 
 // What is left of a vector, and the combination of members that was taken off it.
@@ -67,9 +31,9 @@ struct Residue {
 }
 
 // A basis, and for each word the combination of members that makes it: digit i is set where member i is in.
-pub struct Solver {
-    pub basis: [u64; 64],
-    pub combos: [u64; 64],
+struct Solver {
+    basis: [u64; 64],
+    combos: [u64; 64],
 }
 
 // The combination of members that makes a target, or that there is none.
@@ -78,7 +42,8 @@ pub enum Solution {
     Outside,
 }
 
-// As `reduce`, with the combination of each word that is taken off gathered in y.
+// What is left of v: the word at its leading digit is taken off as long as that makes it smaller. The combination of each word that is
+// taken off is gathered in y.
 fn reduce_combined(basis: &[u64; 64], combos: &[u64; 64], v: u64, y: u64) -> Residue
     ensures { λ r. ⌜ (r .left ≡ reduced (now (basis .entry)) v) × (r .combo ≡ combined (now (basis .entry)) (now (combos .entry)) v y) ⌝ }
 {
@@ -97,7 +62,7 @@ fn reduce_combined(basis: &[u64; 64], combos: &[u64; 64], v: u64, y: u64) -> Res
 }
 
 // The solver for the members, up to the first that those before it span; at most 64.
-pub fn solver_of(members: &[u64]) -> Solver
+fn solver_of(members: &[u64]) -> Solver
     ensures { λ r. ⌜ r ≡ solverOf (now (members .entry)) ⌝ }
 {
     let mut basis = [0u64; 64];
@@ -121,7 +86,7 @@ pub fn solver_of(members: &[u64]) -> Solver
 }
 
 // The combination of members that makes the target, by a solver's words and combinations.
-pub fn solve(basis: &[u64; 64], combos: &[u64; 64], target: u64) -> Solution
+fn solve(basis: &[u64; 64], combos: &[u64; 64], target: u64) -> Solution
     ensures { λ r. ⌜ r ≡ solved (now (basis .entry)) (now (combos .entry)) target ⌝ }
 {
     let r = reduce_combined(basis, combos, target, 0);
@@ -132,7 +97,19 @@ pub fn solve(basis: &[u64; 64], combos: &[u64; 64], target: u64) -> Solution
     }
 }
 
-// Words to take off numbers one after another, the first `taken` of the array, and how many members they are of.
+// The combination of the members that makes the target, or that there is none. The members are independent, so there is at most one.
+pub fn find_combination(members: &[u64], target: u64) -> Solution
+    requires { ⌜ length (now members) ≤ 64 ⌝ }
+    requires { ⌜ freeFrom [] (now members) ≡ true ⌝ }
+    ensures { λ r. ⌜ r ≡ solution (now (members .entry)) target ⌝ }
+{
+    let solver = solver_of(members);
+    let basis = solver.basis;
+    let combos = solver.combos;
+    solve(&basis, &combos, target)
+}
+
+// A basis: words to take off numbers one after another, the first `taken` of the array, and how many members they are of.
 pub struct Kept {
     pub words: [u64; 64],
     pub taken: usize,
@@ -157,74 +134,48 @@ pub fn sweep(words: &[u64], v: u64) -> u64
     left
 }
 
-// Two numbers, swept by the same words.
-struct Two {
-    first: u64,
-    second: u64,
-}
-
-// What the words leave of two numbers. One step does not wait for the other, so two take little longer than one.
-fn sweep_two(words: &[u64], a: u64, b: u64) -> Two
-    ensures { λ r. ⌜ r ≡ sweptTwo (now (words .entry)) a b ⌝ }
+// The same by the first count words of a basis, two at a time: where count is odd, by one word more.
+fn sweep_pairs(words: &[u64; 64], count: usize, v: u64) -> u64
+    requires { ⌜ count < 64 ⌝ }
+    ensures { λ r. ⌜ r ≡ swept (take (evenUp count) (now (words .entry))) v ⌝ }
 {
-    let mut first = a;
-    let mut second = b;
+    let mut left = v;
     let mut i = 0;
-    while i < words.len() {
-        let w = words[i];
-        first = lesser(first, first ^ w);
-        second = lesser(second, second ^ w);
-        i += 1;
-    }
-    Two { first, second }
-}
-
-// How many of the members, of which there are at most 16, come before the first that those before it span. Two at a time.
-pub fn count_free(members: &[u64]) -> usize
-    requires { ⌜ length (now members) ≤ 16 ⌝ }
-    ensures { λ r. ⌜ r ≡ takenFrom [] (now (members .entry)) ⌝ }
-{
-    let mut words = [0u64; 16];
-    let mut i = 0;
-    while i + 1 < members.len() {
-        let two = sweep_two(&words[..i], members[i], members[i + 1]);
-        let first = two.first;
-        if first == 0 {
-            return i;
-        }
-        let second = lesser(two.second, two.second ^ first);
-        if second == 0 {
-            return i + 1;
-        }
-        words[i] = first;
-        words[i + 1] = second;
+    while i < count {
+        left = lesser(left, left ^ words[i]);
+        left = lesser(left, left ^ words[i + 1]);
         i += 2;
     }
-    if i == members.len() {
-        return i;
-    }
-    if sweep(&words[..i], members[i]) == 0 {
-        return i;
-    }
-    i + 1
+    left
 }
 
-// The members as those before them leave them, up to the first of which nothing is left; at most 64.
-pub fn keep(members: &[u64]) -> Kept
+// A basis of the members, one after another, up to the first that those before it span: each is reduced by the words before it, and
+// what is left of it is put in after them. What the words hold that are handed in is of no account. The word put in last is held beside
+// the array, since the next step needs it at once; to take it off twice does no harm.
+pub fn keep(words: [u64; 64], members: &[u64]) -> Kept
+    requires { ⌜ length (now members) ≤ 64 ⌝ }
     ensures { λ r. ⌜ KeptOf (now (members .entry)) r ⌝ }
 {
-    let mut words = [0u64; 64];
+    let mut kept = words;
+    let mut last = 0u64;
+    let mut older = 0;
     let mut i = 0;
     while i < members.len() {
-        if 64 <= i {
-            return Kept { words, taken: i };
+        let swept = sweep_pairs(&kept, older, members[i]);
+        let residue = lesser(swept, swept ^ last);
+        if residue == 0 {
+            return Kept {
+                words: kept,
+                taken: i,
+            };
         }
-        let left = sweep(&words[..i], members[i]);
-        if left == 0 {
-            return Kept { words, taken: i };
-        }
-        words[i] = left;
+        kept[i] = residue;
+        last = residue;
+        older = i;
         i += 1;
     }
-    Kept { words, taken: i }
+    Kept {
+        words: kept,
+        taken: i,
+    }
 }

@@ -5,8 +5,8 @@
 --   inWindow          the choice m among a window's entries, as positions of the row table
 --   in-window, window-place, window-sum   it is in the window, and has their sum
 --   pattern-sum       a pattern in the window has the sum of its choice
---   window-below, window-free   the entries have at most 64 bits; under the conditions they are independent
---   fitOf, fit-solved           so what the solver finds is the first pattern with the V sum
+--   window-few, window-free     the entries are at most 64, and under the conditions independent
+--   fitOf, fit-is               so the solution for the entries is the first pattern with the V sum
 --   fit-sum, fit-none           that pattern has the V sum; where there is none, no choice has it
 --
 -- Assumes nothing.
@@ -25,17 +25,17 @@ use Rattle.gf2.specs.Xor.{pick}
 use Rattle.gf2.specs.Sum.{chosenSum}
 use Rattle.gf2.specs.Independence.{Independent}
 use Rattle.gf2.specs.Vectors.{spans, freeFrom, listed}
-use Rattle.gf2.specs.Basis.{Below}
-use Rattle.gf2.specs.Solver.{combination, solution, solved, solverOf}
+use Rattle.gf2.specs.Solver.{combination, solution}
 use Rattle.gf2.specs.declared.Solution.{Solution}
 use Rattle.gf2.specs.declared.Solution.the-variants.{Combination, Outside}
+use Rattle.gf2.proofs.Basis.{Below}
 use Rattle.gf2.proofs.Sum.{sum-equal}
 use Rattle.gf2.proofs.Independence.{chosen-spanned, independent-free}
 use Rattle.gf2.proofs.Vectors.{listed-length, spanned-listed, free-listed}
 use Rattle.gf2.proofs.Span.{listed-at}
 use Rattle.gf2.proofs.Spans.{spans-turned}
 use Rattle.gf2.proofs.Combination.{combination-listed}
-use Rattle.gf2.proofs.Solving.{solver-solves, solution-found}
+use Rattle.gf2.proofs.Solving.{solution-found}
 use Rattle.finite.specs.Search.{bit, within, least, numberOf}
 use Rattle.finite.proofs.Search.{least-found, least-most, least-equal}
 use Rattle.finite.proofs.Digits.{number-below, bit-number}
@@ -117,7 +117,10 @@ module _ (c : Code) (F : Formed c) (i : ℕ) (on : i + c .b1 ≤ c .n1) where
   unfolding windowEntries
   window-length = listed-length (c .b1 * c .b2) (entryAt c i)
 
-  pub window-below : Below 64 (windowEntries c i)
+  pub window-few : length (windowEntries c i) ≤ 64
+  window-few = let e = window-length in let l = at-most in omega arith
+
+  window-below : Below 64 (windowEntries c i)
   unfolding windowEntries
   window-below k l =
       let n = c .b1 * c .b2 in
@@ -141,18 +144,10 @@ module _ (c : Code) (F : Formed c) (i : ℕ) (on : i + c .b1 ≤ c .n1) where
           (λ j t. unfold rowMember in or-left (within i (c .b1) (j / c .b2)) (within i (c .b1) (j / c .b2)) (in-window m j t))
           (window-sum m ∙ (unfold windowSum in z)) (i * c .b2 + k) (omega arith)
 
-  -- what the solver answers
+  -- the solution for the entries
   module _ (K : Conditions c) (v : ℕ) (small : v < 2 ^ 64) where
     entries : List ℕ
     entries = windowEntries c i
-
-    few : length entries ≤ 64
-    unfolding entries
-    few = let e = window-length in let l = at-most in omega arith
-
-    answer-is : solved (solverOf entries .basis) (solverOf entries .combos) v ≡ solution entries v
-    unfolding entries
-    answer-is = solver-solves (windowEntries c i) few window-below (window-free K) v small
 
     made : (x : ℕ) → windowSum c i (bit x) ≡ combination entries x
     unfolding windowSum windowEntries entries
@@ -168,7 +163,7 @@ module _ (c : Code) (F : Formed c) (i : ℕ) (on : i + c .b1 ≤ c .n1) where
 
     answer-found : spans entries v ≡ true → (y : ℕ) × (solution entries v ≡ Combination y) × (y < 2 ^ length entries) × (combination entries y ≡ v)
     unfolding entries
-    answer-found t = solution-found (windowEntries c i) few window-below (window-free K) v small t
+    answer-found t = solution-found (windowEntries c i) window-few window-below (window-free K) v small t
 
     -- the first pattern by number, by the solver's vectors
     first-same : least (patterns c) (λ x. eqb (windowSum c i (bit x)) v) ≡ least (2 ^ length entries) (λ y. eqb (combination entries y) v)
@@ -196,18 +191,13 @@ module _ (c : Code) (F : Formed c) (i : ℕ) (on : i + c .b1 ≤ c .n1) where
         x : ℕ
         x = least n (λ x. eqb (windowSum c i (bit x)) v)
 
-    fit-is : fitOf (solution entries v) ≡ firstFit c i v
-    unfolding firstFit solution
+    pub fit-is : fitOf (solution (windowEntries c i) v) ≡ firstFit c i v
+    unfolding firstFit solution entries
     fit-is = rw (first-below, first-same) (go (spans entries v) (least (2 ^ length entries) (λ y. eqb (combination entries y) v)))
       where
         go : (t : Bool) (y : ℕ) → fitOf (cond t (Combination y) Outside) ≡ cond t (Pattern y) Nothing
         go true y = refl
         go false y = refl
-
-    pub fit-solved : (t : Solution) → solved (solverOf (windowEntries c i) .basis) (solverOf (windowEntries c i) .combos) v ≡ t
-        → fitOf t ≡ firstFit c i v
-    unfolding entries
-    fit-solved t e = ap fitOf (sym e ∙ answer-is) ∙ fit-is
 
 -- ---- what the fit says of the window
 

@@ -6,8 +6,7 @@ ghost use Rattle.plan.specs.Bytes.{codeWith};
 ghost use Rattle.plan.specs.Accepted.{AcceptedWith};
 ghost use Rattle.mend.specs.Window.{Gathered, firstFit};
 use gf2::Solution;
-use gf2::solve;
-use gf2::solver_of;
+use gf2::find_combination;
 use plan::entry::row_entry;
 use plan::header::Header;
 
@@ -42,10 +41,7 @@ pub fn window_fit(plan: &[u8], h: Header, i: usize, v: u64) -> Fit
 {
     let words = gather(plan, h, i);
     let size = h.b1 * h.b2;
-    let solver = solver_of(&words[..size]);
-    let basis = solver.basis;
-    let combos = solver.combos;
-    match solve(&basis, &combos, v) {
+    match find_combination(&words[..size], v) {
         Solution::Combination(x) => Fit::Pattern(x),
         Solution::Outside => Fit::Nothing,
     }

@@ -1,6 +1,5 @@
--- How many cells a sheet has at most, and what follows for bytes:
+-- Numbers of cells, and places of bytes, that fit:
 --
---   cells-most    at most 512 × 698 cells
 --   pair-most     the number of a pair of 16-bit numbers fits
 --   place-inside  the byte of a data bit stands in the data
 --
@@ -13,9 +12,6 @@ use Rattle.layout.specs.Cells.{rowBytes, sheetBytes, byteOf}
 use Rattle.layout.proofs.Form.{byte-inside, row-sheet}
 use Rattle.plan.specs.Header.{Small}
 use Rattle.plan.specs.declared.header.Header.{Header}
-
-pub cells-most : (h : Header) → Small h → h .n1 * h .n2 ≤ 357376
-cells-most h S = mul-le-mul (S .n1-most) (S .n2-most)
 
 pub pair-most : (h : Header) → Small h → (row : ℕ) → row < 65536 → row * h .n2 ≤ 45744128
 pair-most h S row l = let m : row * h .n2 ≤ 65536 * 698 = mul-le-mul (let w : row ≤ 65536 = omega arith in w) (S .n2-most) in m

@@ -4,7 +4,7 @@ ghost use Prim.Native.Nat.{_+_, _*_, _≤_, _<_};
 ghost use Rattle.finite.specs.Search.{least};
 ghost use Rattle.plan.specs.Header.{Small, Framed};
 ghost use Rattle.plan.specs.Bytes.{codeWith};
-ghost use Rattle.plan.specs.Table.{entries, entryOf};
+ghost use Rattle.plan.specs.Table.{entriesOf, entryOf};
 ghost use Rattle.plan.specs.Form.{badBurst, badSheet, badWidths, badOffsets, fieldsVerdict, headerVerdict, firstLarge};
 ghost use Rattle.plan.specs.Form.{entriesVerdict, rises, badPair, listVerdict, formVerdict};
 use crate::entry::check_cell;
@@ -82,7 +82,7 @@ pub fn header_verdict(plan: &[u8]) -> Verdict
 // The first of count entries of a table that has more than width bits, or count.
 fn first_large(plan: &[u8], h: Header, t: Table, count: usize, width: usize) -> usize
     requires { ⌜ Framed (now plan) h ⌝ }
-    requires { ⌜ (count ≤ entries h t) × (width ≤ 32) ⌝ }
+    requires { ⌜ (count ≤ entriesOf h t) × (width ≤ 32) ⌝ }
     ensures { λ r. ⌜ r ≡ firstLarge count width (entryOf (now (plan .entry)) h t) ⌝ }
 {
     let limit = 1u64 << width;

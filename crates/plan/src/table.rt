@@ -1,8 +1,10 @@
-// The two tables of a plan, and the column table unpacked once into words.
-ghost use Prim.Native.Nat.{_*_, _<_};
-ghost use Rattle.plan.specs.Header.{Framed};
+// The two tables of a plan, and a table unpacked into words.
+ghost use mathlib.Core.Path.{_≡_};
+ghost use Prim.Native.Nat.{_<_};
+ghost use lib.ListN.{length};
+ghost use Rattle.plan.specs.Header.{Small, Framed};
 ghost use Rattle.plan.specs.Bytes.{Weight};
-ghost use Rattle.plan.specs.Table.{entries, entryOf, Unpacked};
+ghost use Rattle.plan.specs.Table.{entriesOf, entryOf, EntriesIn};
 use crate::entry::column_entry;
 use crate::entry::row_entry;
 use crate::header::Header;
@@ -16,7 +18,7 @@ pub enum Table {
 // The entry at a position of a table.
 pub fn entry(plan: &[u8], h: Header, t: Table, k: usize) -> u64
     requires { ⌜ Framed (now plan) h ⌝ }
-    requires { ⌜ k < entries h t ⌝ }
+    requires { ⌜ k < entriesOf h t ⌝ }
     ensures { λ r. ⌜ Weight (entryOf (now (plan .entry)) h t k) r ⌝ }
 {
     match t {
@@ -25,17 +27,27 @@ pub fn entry(plan: &[u8], h: Header, t: Table, k: usize) -> u64
     }
 }
 
-// The column table, at most 698 columns by bursts of 4 rows; zeros after its entries.
-pub fn column_table(plan: &[u8], h: Header) -> [u64; 2792]
-    requires { ⌜ Framed (now plan) h ⌝ }
-    ensures { λ r. ⌜ Unpacked (now (plan .entry)) h r ⌝ }
+// How many entries a table has.
+pub fn entries(h: Header, t: Table) -> usize
+    requires { ⌜ Small h ⌝ }
+    ensures { λ r. ⌜ r ≡ entriesOf h t ⌝ }
 {
-    let mut words = [0u64; 2792];
-    let count = h.n2 * h.b1;
+    match t {
+        Table::Rows => h.n1 * h.b2,
+        Table::Columns => h.n2 * h.b1,
+    }
+}
+
+// A table into the first of 2,792 words. There are at most 698 columns, with 4 entries each.
+pub fn unpack(plan: &[u8], h: Header, t: Table, words: &mut [u64])
+    requires { ⌜ Framed (now plan) h ⌝ }
+    requires { ⌜ length (now words) ≡ 2792 ⌝ }
+    ensures { λ _. ⌜ EntriesIn (now (plan .entry)) h t (now (words .exit)) ⌝ }
+{
+    let count = entries(h, t);
     let mut k = 0;
     while k < count {
-        words[k] = column_entry(plan, h, k);
+        words[k] = entry(plan, h, t, k);
         k += 1;
     }
-    words
 }

@@ -1,63 +1,56 @@
--- `gf2::keep` meets its contract. The loop's invariant is `Keeping`: the first i words are those of the first i members.
--- Assumes nothing.
-use Prim.Native.Nat.{_≤_, _-_}
-use mathlib.Core.Path.{_≡_, refl, sym, _∙_}
-use native.Mathlib.Omega.{arith}
+-- `gf2::keep` meets its contract. The loop's invariant: the first i words are those of the first i members (`Keeping`), and sweeping by
+-- the older words and then by the last is sweeping by all of them. Assumes nothing.
+use mathlib.Core.List.{[]}
+use mathlib.Core.Path.{_≡_, sym, _∙_}
+use Prim.Native.Nat.{_-_, _≤_}
 use native.Mathlib.Numerals.{add-one}
+use native.Mathlib.Omega.{arith}
 use borrow.Author.Needs.{needs}
-use lib.ListN.{length, take, length-take, length-set}
-use lib.Seq.{take-suc-set, length-take-le}
-use Rattle.gf2.proofs.Keeping.{Keeping, keeping-start, keeping-next, keeping-stop, keeping-end}
+use lib.ListN.{length, take, length-set}
+use lib.Seq.{take-suc-set}
+use Rattle.gf2.specs.Xor.{_⊕_}
+use Rattle.gf2.proofs.Keeping.{Keeping, LastSwept, keeping-start, keeping-next, keeping-stop, keeping-end, last-start, last-next, swept-last}
 use Rattle.gf2.proofs.keep.Statement.{statement}
 use Rattle.gf2.proofs.keep.Tie as tie
 
 abbrev Inv-loop : tie.InvT-loop
-Inv-loop members words₀ i₀ words i = (i ≤ length members) × (i ≤ 64) × (length words ≡ 64) × Keeping 64 members (take i words) i
+Inv-loop members kept₀ last₀ older₀ i₀ kept last older i =
+    (i ≤ length members) × (older ≤ i) × (length kept ≡ 64) × LastSwept kept older last i × Keeping members (take i kept) i
 
 abbrev μ-loop : tie.MeasureT-loop
-μ-loop members words₀ i₀ words i = length members - i
+μ-loop members kept₀ last₀ older₀ i₀ kept last older i = length members - i
 
 loop-holds : tie.Need-loop-holds Inv-loop μ-loop
-loop-holds c = (omega arith, omega arith, refl, keeping-start 64 _)
+loop-holds c = (omega arith, omega arith, search needs, last-start [], keeping-start _)
+
+mul-sweep-pairs : tie.Need-mul-sweep-pairs Inv-loop μ-loop
+mul-sweep-pairs c = search needs
+
+shared-slice-read-sweep-pairs : tie.Need-shared-slice-read-sweep-pairs Inv-loop μ-loop
+shared-slice-read-sweep-pairs c = search needs
+
+sweep-pairs-requires : tie.Need-sweep-pairs-requires Inv-loop μ-loop
+sweep-pairs-requires c κs = search needs
+
+lesser-requires : tie.Need-lesser-requires Inv-loop μ-loop
+lesser-requires c κs = search needs
 
 returns : tie.Need-returns Inv-loop μ-loop
+unfolding _⊕_
 returns c =
-    let a = c .before .before .loop in
-    record {
-      size = a .inv .2;
-      count = sym (keeping-end 64 _ _ (a .i) (a .inv .3) (omega (arith, length-take 64 (c .before .before .before .before .args .members .now))));
-      words = a .inv .3 .words;
-    }
-
-array-share-prefix-words : tie.Need-array-share-prefix-words Inv-loop μ-loop
-array-share-prefix-words c = search needs
-
-slice-aggregate-sweep : tie.Need-slice-aggregate-sweep Inv-loop μ-loop
-slice-aggregate-sweep c = sym (length-take-le _ _ (omega arith))
-
-mul-sweep : tie.Need-mul-sweep Inv-loop μ-loop
-mul-sweep c = search needs
-
-shared-slice-read-sweep : tie.Need-shared-slice-read-sweep Inv-loop μ-loop
-shared-slice-read-sweep c = search needs
-
-sweep-requires : tie.Need-sweep-requires Inv-loop μ-loop
-sweep-requires c κs = search needs
-
-returns-2 : tie.Need-returns-2 Inv-loop μ-loop
-returns-2 c =
     let a = c .before .before .before .before .before .before .loop in
+    let e = swept-last (a .kept) (a .older) (a .last) (a .i) _ (a .inv .3) (c .before .before .sweep-pairs .ensures) (c .before .lesser .ensures) in
     record {
       size = a .inv .2;
-      count = sym (keeping-stop 64 _ _ (a .i) (a .inv .3) (omega arith) (omega arith) (sym (c .before .sweep .ensures) ∙ c .if2 .taken));
-      words = a .inv .3 .words;
+      count = sym (keeping-stop _ _ (a .i) (a .inv .4) (omega arith) (sym e ∙ c .if1 .taken));
+      words = a .inv .4 .words;
     }
 
-mul-words : tie.Need-mul-words Inv-loop μ-loop
-mul-words c = search needs
+mul-kept : tie.Need-mul-kept Inv-loop μ-loop
+mul-kept c = search needs
 
-array-write-words : tie.Need-array-write-words Inv-loop μ-loop
-array-write-words c = search needs
+array-write-kept : tie.Need-array-write-kept Inv-loop μ-loop
+array-write-kept c = search needs
 
 add-i : tie.Need-add-i Inv-loop μ-loop
 add-i c = search needs
@@ -66,23 +59,26 @@ loop-less : tie.Need-loop-less Inv-loop μ-loop
 loop-less c = search needs
 
 loop-again : tie.Need-loop-again Inv-loop μ-loop
+unfolding _⊕_
 loop-again c =
     let a = c .before .before .before .before .before .before .loop in
-    let r = c .before .sweep in
-    let k = keeping-next 64 _ _ (a .i) (a .inv .3) (omega arith) (omega arith) (λ e. c .if2 .left (r .ensures ∙ e)) in (
+    let left = c .before .lesser .result in
+    let e = swept-last (a .kept) (a .older) (a .last) (a .i) _ (a .inv .3) (c .before .before .sweep-pairs .ensures) (c .before .lesser .ensures) in
+    let k = keeping-next _ _ (a .i) (a .inv .4) (omega arith) (λ z. c .if1 .left (e ∙ z)) in (
       omega arith,
       omega arith,
-      length-set (a .words) (a .i) (r .result) ∙ a .inv .2,
-      rw (add-one, take-suc-set (a .words) (a .i) (r .result) (omega arith), r .ensures) k,
+      length-set (a .kept) (a .i) left ∙ a .inv .2,
+      last-next (a .kept) (a .i) left (omega arith),
+      rw (add-one, take-suc-set (a .kept) (a .i) left (omega arith), e) k,
     )
 
-returns-3 : tie.Need-returns-3 Inv-loop μ-loop
-returns-3 c =
+returns-2 : tie.Need-returns-2 Inv-loop μ-loop
+returns-2 c =
     let a = c .before .loop in
     record {
       size = a .inv .2;
-      count = sym (keeping-end 64 _ _ (a .i) (a .inv .3) (omega (arith, length-take 64 (c .before .before .before .args .members .now))));
-      words = a .inv .3 .words;
+      count = sym (keeping-end _ _ (a .i) (a .inv .4) (omega arith));
+      words = a .inv .4 .words;
     }
 
 pub keep-spec : {M : Type 1} → statement M
@@ -92,16 +88,14 @@ keep-spec =
     Inv-loop
     μ-loop
     loop-holds
+    mul-sweep-pairs
+    shared-slice-read-sweep-pairs
+    sweep-pairs-requires
+    lesser-requires
     returns
-    array-share-prefix-words
-    slice-aggregate-sweep
-    mul-sweep
-    shared-slice-read-sweep
-    sweep-requires
-    returns-2
-    mul-words
-    array-write-words
+    mul-kept
+    array-write-kept
     add-i
     loop-less
     loop-again
-    returns-3)
+    returns-2)

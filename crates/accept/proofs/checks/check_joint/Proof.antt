@@ -1,7 +1,7 @@
 -- `accept::checks::check_joint` meets its contract: the two entries stand in digits of their own. Assumes nothing.
 use Rattle.plan.specs.Bytes.{codeWith}
 use Prim.Native.Nat.{_+_, _*_, _%_, _^_, _≤_}
-use Rattle.accept.specs.Tables.{Joint}
+use Rattle.accept.specs.Joints.{Joint}
 use mathlib.Core.Path.{_≡_}
 use native.Mathlib.Omega.{arith}
 use Rattle.accept.proofs.JointEntries.{joint-word, shift-exact, joint-of}
@@ -26,32 +26,32 @@ shl-result : tie.Need-shl-result
 shl-result c = search needs
 
 -- what the shift gives, that rv + rh digits fit a word, and the joint entry
-exact : (c : tie.After-column-weight) → 1 * 2 ^ c .before .before .before .before .args .h .rv % 18446744073709551616 ≡ 2 ^ c .before .before .before .before .args .h .rv
-exact c = shift-exact (c .before .before .before .before .args .h .rv) (c .before .before .before .before .pre .0 .small .rv-most)
+abbrev start : tie.After-column-weight → tie.Start
+start c = c .before .before .before .before
 
-word : (c : tie.After-column-weight) → 2 ^ (c .before .before .before .before .args .h .rv + c .before .before .before .before .args .h .rh) ≤ 2 ^ 64
-word c =
-    let p = c .before .before .before .before .pre .0 .small in
-    joint-word (c .before .before .before .before .args .h .rv) (c .before .before .before .before .args .h .rh) (p .rv-most) (p .rh-most)
+exact : (s : tie.Start) → 1 * 2 ^ s .args .h .rv % 18446744073709551616 ≡ 2 ^ s .args .h .rv
+exact s = shift-exact (s .args .h .rv) (s .pre .0 .small .rv-most)
+
+word : (s : tie.Start) → 2 ^ (s .args .h .rv + s .args .h .rh) ≤ 2 ^ 64
+word s = let p = s .pre .0 .small in joint-word (s .args .h .rv) (s .args .h .rh) (p .rv-most) (p .rh-most)
 
 whole : (c : tie.After-column-weight)
-    → Joint (codeWith (c .before .before .before .before .args .plan .now) (c .before .before .before .before .args .h))
-    (c .before .before .before .before .args .k)
-    (c .before .row-weight .result + 2 ^ c .before .before .before .before .args .h .rv * c .column-weight .result)
+    → let a = start c .args in
+    Joint (codeWith (a .plan .now) (a .h)) (a .k) (c .before .row-weight .result + 2 ^ a .h .rv * c .column-weight .result)
 whole c =
-    let s = c .before .before .before .before in
+    let s = start c in
     let e = c .before .before .check-cell .ensures .value in
     joint-of (codeWith (s .args .plan .now) (s .args .h)) (s .pre .1 .0) (s .args .k) _ _ (s .pre .1 .1)
     (rw e at (c .before .row-weight .ensures .value)) (rw e at (c .column-weight .ensures .value))
 
 mul-result : tie.Need-mul-result
-mul-result c = let j = whole c in let e = word c in rw (exact c) (omega (arith, j .below))
+mul-result c = let j = whole c in let e = word (start c) in rw (exact (start c)) (omega (arith, j .below))
 
 add-result : tie.Need-add-result
-add-result c = let j = whole c in let e = word c in rw (exact c) (omega (arith, j .below))
+add-result c = let j = whole c in let e = word (start c) in rw (exact (start c)) (omega (arith, j .below))
 
 returns : tie.Need-returns
-returns c = rw (exact c) (whole c)
+returns c = rw (exact (start c)) (whole c)
 
 pub check-joint-spec : {M : Type 1} → statement M
 check-joint-spec =

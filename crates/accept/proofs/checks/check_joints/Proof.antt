@@ -8,7 +8,7 @@ use Rattle.gf2.specs.Vectors.{listed}
 use Rattle.boxcode.specs.Code.{checkJoint}
 use Rattle.boxcode.specs.Condition.{everyone}
 use Rattle.plan.specs.Bytes.{codeWith}
-use Rattle.accept.specs.Tables.{jointsOf}
+use Rattle.accept.specs.Joints.{jointsOf}
 use Rattle.accept.proofs.JointEntries.{joints-none, joints-next}
 use Rattle.accept.proofs.checks.check_joints.Statement.{statement}
 use Rattle.accept.proofs.checks.check_joints.Tie as tie

@@ -1,5 +1,6 @@
 -- `accept::test::conditions_verdict` meets its contract: each check is asked for only where those before it gave 0. Assumes nothing.
 use mathlib.Core.Path.{_≡_, sym, ap, _∙_}
+use Rattle.boxcode.specs.Code.{Code}
 use Rattle.plan.specs.declared.verdict.Verdict.{Verdict}
 use Rattle.plan.specs.Verdict.{_orElse_}
 use Rattle.plan.specs.Bytes.{codeWith}
@@ -9,48 +10,84 @@ use borrow.Author.Needs.{needs}
 use Rattle.accept.proofs.test.conditions_verdict.Statement.{statement}
 use Rattle.accept.proofs.test.conditions_verdict.Tie as tie
 
--- check 8 passed
-rows : (c : tie.Else1) → rowsVerdict (codeWith (c .before .before .before .before .args .plan .now) (c .before .before .before .before .args .h)) .number ≡ 0
-rows c = ap (λ (v : Verdict). v .number) (sym (c .before .before .rows-verdict .ensures)) ∙ c .if1 .left
+-- check 8 fails; it passes, and check 9 fails; both pass
+module _ (code : Code) where
+  at-rows : {v : Verdict} → v ≡ rowsVerdict code → (v .number ≡ 0 → ⊥) → v ≡ conditionsVerdict code
+  unfolding conditionsVerdict
+  at-rows e n = e ∙ sym (else-first (rowsVerdict code) _ (λ z. n (ap (λ (v : Verdict). v .number) e ∙ z)))
+
+  passed : {v : Verdict} → v ≡ rowsVerdict code → v .number ≡ 0 → conditionsVerdict code ≡ (columnsVerdict code orElse checksVerdict code)
+  unfolding conditionsVerdict
+  passed e n = else-second (rowsVerdict code) (columnsVerdict code orElse checksVerdict code) (ap (λ (v : Verdict). v .number) (sym e) ∙ n)
+
+  at-columns : {r v : Verdict} → r ≡ rowsVerdict code → r .number ≡ 0 → v ≡ columnsVerdict code → (v .number ≡ 0 → ⊥) → v ≡ conditionsVerdict code
+  at-columns er nr e n = e ∙ sym (passed er nr ∙ else-first (columnsVerdict code) _ (λ z. n (ap (λ (v : Verdict). v .number) e ∙ z)))
+
+  at-checks : {r v w : Verdict} → r ≡ rowsVerdict code → r .number ≡ 0 → v ≡ columnsVerdict code → v .number ≡ 0 → w ≡ checksVerdict code
+      → w ≡ conditionsVerdict code
+  at-checks er nr e n ew = ew ∙ sym (passed er nr ∙ else-second (columnsVerdict code) _ (ap (λ (v : Verdict). v .number) (sym e) ∙ n))
+
+slice-aggregate-rows-verdict : tie.Need-slice-aggregate-rows-verdict
+slice-aggregate-rows-verdict c = search needs
 
 rows-verdict-requires : tie.Need-rows-verdict-requires
 rows-verdict-requires c κs = search needs
 
+same-length : tie.Need-same-length
+same-length c = search needs
+
 returns : tie.Need-returns
-unfolding conditionsVerdict
 returns c =
-    rw (← (c .before .before .rows-verdict .ensures)) (sym (else-first _ _ (c .if1 .taken)))
+    let s = c .before .before .before .before .before .before .before .before .before .before .args in
+    let n = c .if1 .taken in
+    (at-rows (codeWith (s .plan .now) (s .h)) (c .before .before .before .before .before .rows-verdict .ensures) n, λ z. absurd (n z))
+
+slice-aggregate-columns-verdict : tie.Need-slice-aggregate-columns-verdict
+slice-aggregate-columns-verdict c = search needs
 
 columns-verdict-requires : tie.Need-columns-verdict-requires
 columns-verdict-requires c κs = search needs
 
+same-length-2 : tie.Need-same-length-2
+same-length-2 c = search needs
+
 returns-2 : tie.Need-returns-2
-unfolding conditionsVerdict
 returns-2 c =
-    let s = c .before .before .before .before .before .before .before .args in
-    let code = codeWith (s .plan .now) (s .h) in
-    let r = else-second (rowsVerdict code) (columnsVerdict code orElse checksVerdict code) (rows (c .before .before .before)) in
-    rw (r, ← (c .before .before .columns-verdict .ensures)) (sym (else-first _ _ (c .if2 .taken)))
+    let v = c .before .before .before .before .before in
+    let r = v .before .before .before .before .before .before .before .before in
+    let s = r .before .before .before .before .before .args in
+    let n = c .if2 .taken in (
+      at-columns (codeWith (s .plan .now) (s .h)) (r .rows-verdict .ensures) (v .before .before .before .if1 .left) (v .columns-verdict .ensures .0) n,
+      λ z. absurd (n z),
+    )
 
 checks-verdict-requires : tie.Need-checks-verdict-requires
 checks-verdict-requires c κs = search needs
 
+same-length-3 : tie.Need-same-length-3
+same-length-3 c = search needs
+
 returns-3 : tie.Need-returns-3
-unfolding conditionsVerdict
 returns-3 c =
-    let s = c .before .before .before .before .before .before .before .before .args in
-    let code = codeWith (s .plan .now) (s .h) in
-    let r = else-second (rowsVerdict code) (columnsVerdict code orElse checksVerdict code) (rows (c .before .before .before .before)) in
-    let e : columnsVerdict code .number ≡ 0 = ap (λ (v : Verdict). v .number) (sym (c .before .before .before .columns-verdict .ensures)) ∙ c .before .if2 .left in
-    c .checks-verdict .ensures ∙ sym (r ∙ else-second (columnsVerdict code) (checksVerdict code) e)
+    let v = c .before .before .before .before .before .before in
+    let r = v .before .before .before .before .before .before .before .before in
+    let s = r .before .before .before .before .before .args in
+    let e = v .columns-verdict .ensures in
+    let p = v .before .before .before .if1 .left in
+    (at-checks (codeWith (s .plan .now) (s .h)) (r .rows-verdict .ensures) p (e .0) (c .before .if2 .left) (c .checks-verdict .ensures), λ _. e .1)
 
 pub conditions-verdict-spec : {M : Type 1} → statement M
 conditions-verdict-spec =
     tie.close
     (tie.spec
+    slice-aggregate-rows-verdict
     rows-verdict-requires
+    same-length
     returns
+    slice-aggregate-columns-verdict
     columns-verdict-requires
+    same-length-2
     returns-2
     checks-verdict-requires
+    same-length-3
     returns-3)

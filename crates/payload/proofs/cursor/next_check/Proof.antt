@@ -3,7 +3,8 @@ use mathlib.Core.Path.{sym}
 use native.Mathlib.Omega.{arith}
 use Rattle.boxcode.specs.Code.{cellNumber}
 use Rattle.boxcode.specs.Check.{checkNumber}
-use Rattle.payload.proofs.Size.{cells-most, pair-most}
+use Rattle.boxcode.proofs.Check.{sheet-cells}
+use Rattle.payload.proofs.Size.{pair-most}
 use Rattle.payload.proofs.Stand.{next-here, next-past}
 use borrow.Author.Needs.{needs}
 use Rattle.payload.proofs.cursor.next_check.Statement.{statement}
@@ -13,7 +14,7 @@ add-if1 : tie.Need-add-if1
 add-if1 c = search needs
 
 mul-result : tie.Need-mul-result
-mul-result c = let m = cells-most _ (c .before .before .before .before .pre .0 .small) in omega arith
+mul-result c = let s = c .before .before .before .before .pre .0 .small in omega (arith, sheet-cells (s .n1-most) (s .n2-most))
 
 returns : tie.Need-returns
 returns c = sym (next-past _ _ (omega arith))

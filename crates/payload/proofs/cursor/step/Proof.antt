@@ -1,7 +1,7 @@
 -- `payload::cursor::step` meets its contract: past a check cell, or past a data cell. Assumes nothing.
 use mathlib.Core.Path.{_≡_, refl}
 use native.Mathlib.Omega.{arith}
-use Rattle.payload.proofs.Size.{cells-most}
+use Rattle.boxcode.proofs.Check.{sheet-cells}
 use Rattle.payload.proofs.Stand.{at-row, check-left, at-pass, at-most, at-fill}
 use borrow.Author.Needs.{needs}
 use Rattle.payload.proofs.cursor.step.Statement.{statement}
@@ -22,7 +22,7 @@ add-check : tie.Need-add-check
 add-check c = search needs
 
 add-t8 : tie.Need-add-t8
-add-t8 c = let m = cells-most _ (c .before .before .before .before .before .before .before .pre .0 .small) in omega arith
+add-t8 c = let s = c .before .before .before .before .before .before .before .pre .0 .small in omega (arith, sheet-cells (s .n1-most) (s .n2-most))
 
 next-check-requires : tie.Need-next-check-requires
 next-check-requires c κs =
@@ -50,7 +50,7 @@ add-t10 c = search needs
 add-t11 : tie.Need-add-t11
 add-t11 c =
     let pre = c .before .before .before .before .before .before .before .pre in
-    let m = cells-most _ (pre .0 .small) in
+    let m = sheet-cells (pre .0 .small .n1-most) (pre .0 .small .n2-most) in
     let n = at-most _ (pre .1 .0) _ (pre .1 .1 .0) in
     omega arith
 

@@ -6,10 +6,10 @@ use lib.ListN.{length, replicate}
 use Rattle.layout.specs.Cells.{cellOf, bytesOf}
 use Rattle.layout.proofs.Form.{byte-inside, bytes-form, row-sheet}
 use Rattle.boxcode.specs.Check.{dataSize}
-use Rattle.boxcode.proofs.Check.{checks-fit}
+use Rattle.boxcode.proofs.Check.{sheet-cells, checks-fit}
 use Rattle.plan.specs.Bytes.{codeWith}
 use Rattle.payload.specs.Walk.{At}
-use Rattle.payload.proofs.Size.{cells-most, place-inside}
+use Rattle.payload.proofs.Size.{place-inside}
 use Rattle.payload.proofs.Stand.{at-row, at-below}
 use Rattle.payload.proofs.Progress.{takenTo, take-first, take-step, take-all}
 use Rattle.payload.proofs.transfer.take.Statement.{statement}
@@ -24,7 +24,7 @@ abbrev μ-loop : tie.MeasureT-loop
 μ-loop plan h sheet bits₀ cells k n2 at₀ t₀ bits at t = cells - t
 
 mul-cells : tie.Need-mul-cells Inv-loop μ-loop
-mul-cells c = let m = cells-most _ (c .before .before .before .before .pre .0 .small) in omega arith
+mul-cells c = let s = c .before .before .before .before .pre .0 .small in omega (arith, sheet-cells (s .n1-most) (s .n2-most))
 
 add-k : tie.Need-add-k Inv-loop μ-loop
 add-k c = omega arith
@@ -59,7 +59,7 @@ take-bit-requires c κs =
     let v = c .before .before .loop .inv in
     let F = pre .1 .0 in
     let l : c .before .before .loop .at .cell < start .args .h .n1 * start .args .h .n2 = omega arith in
-    let m = cells-most _ (pre .0 .small) in
+    let m = sheet-cells (pre .0 .small .n1-most) (pre .0 .small .n2-most) in
     let b = byte-inside _ _ (v .5 .column-in) _ _ (at-row _ F _ (v .5) l) in
     let s = ap length (v .6) ∙ bytes-form _ _ _ .size ∙ row-sheet _ in
     ((omega arith, omega arith, omega arith), λ e. place-inside _ _ _ s (at-below _ F _ (v .5) l e))

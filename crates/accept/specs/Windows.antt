@@ -1,0 +1,67 @@
+-- Pairs of windows on a table, as the code tests them. A window is a run of entries of a table: of V, those of b1 rows (01: a window),
+-- of H, those of b2 columns (01: a strip).
+--
+--   wordAt words k         word k of an unpacked table
+--   reduction f a size k   entry k, with the entry of the window at place a that has the same remainder taken off
+--   pairList t f size a b  the numbers of which two windows, at the places a ≤ b, ask that they are independent. Of V: the entries of both,
+--                          each position once. Of H: those of the second that are not in the first, reduced by the first
+--   pairFree t f size a b  they are
+--   windowsFree t f step size i j   the same of windows number i and j, where each begins step entries after the one before
+--   startOf t i            the first window that is paired with window i: itself, or of H the next
+--   Inside n a size        a window at place a lies in a table of n words
+--   Windows n step size count       count windows do
+--   Prepared t words size a taken rest  after the window at a, these tell of each later window whether the pair is independent: how many
+--                          of the window's own words count, and what it leaves of the words after it
+use Prim.Native.Nat.{ℕ, _+_, _-_, _*_, _%_, _≤_, max}
+use mathlib.Core.Path.{_≡_}
+use mathlib.Core.Bool.{Bool, _&&_}
+use mathlib.Core.List.{List, [], _++_}
+use lib.Dec.{eqb}
+use lib.ListN.{length, getD}
+use Rattle.gf2.specs.Xor.{_⊕_}
+use Rattle.gf2.specs.Vectors.{freeFrom, run, part}
+use Rattle.plan.specs.declared.table.Table.{Table}
+use Rattle.plan.specs.declared.table.Table.the-variants.{Rows, Columns}
+
+abbrev pub wordAt : List ℕ → ℕ → ℕ
+wordAt words k = getD words k 0
+
+unfoldable pub reduction : (ℕ → ℕ) → ℕ → ℕ → ℕ → ℕ
+reduction f a size k = f k ⊕ f (a + (k - a) % size)
+
+-- of the window at b what comes after the window at a
+unfoldable pub restRun : (ℕ → ℕ) → ℕ → ℕ → ℕ → List ℕ
+restRun f size a b = run f (max (a + size) b) (b + size - max (a + size) b)
+
+unfoldable pub pairList : Table → (ℕ → ℕ) → ℕ → ℕ → ℕ → List ℕ
+pairList Rows f size a b = run f a size ++ restRun f size a b
+pairList Columns f size a b = restRun (reduction f a size) size a b
+
+unfoldable pub pairFree : Table → (ℕ → ℕ) → ℕ → ℕ → ℕ → Bool
+pairFree t f size a b = freeFrom [] (pairList t f size a b)
+
+abbrev pub windowsFree : Table → (ℕ → ℕ) → ℕ → ℕ → ℕ → ℕ → Bool
+windowsFree t f step size i j = pairFree t f size (i * step) (j * step)
+
+abbrev pub startOf : Table → ℕ → ℕ
+startOf Rows i = i
+startOf Columns i = i + 1
+
+pub record Inside (n a size : ℕ) : Type 0 where
+  pub size-pos : 1 ≤ size
+  pub size-most : size ≤ 16
+  pub inside : a + size ≤ n
+  pub few : n ≤ 2792
+
+pub record Windows (n step size count : ℕ) : Type 0 where
+  pub size-pos : 1 ≤ size
+  pub size-most : size ≤ 16
+  pub some : 1 ≤ count
+  pub most : count ≤ 698
+  pub inside : count * step + size ≤ n + step
+  pub few : n ≤ 2792
+
+pub record Prepared (t : Table) (words : List ℕ) (size a taken : ℕ) (rest : List ℕ) : Type 0 where
+  pub long : length rest ≡ length words
+  pub free : (b : ℕ) → a ≤ b → b + size ≤ length words
+      → pairFree t (wordAt words) size a b ≡ (eqb taken size && freeFrom [] (part (max (a + size) b) (b + size) rest))

@@ -1,0 +1,36 @@
+-- Tables of powers: each word is z times the one before, modulo one polynomial (02, request a: "entry k is z to the power k modulo
+-- that polynomial"). A polynomial is a number, digit i for the power i.
+--
+--   timesZ p x          z times x modulo p: twice x, with p taken off where that makes it smaller
+--   firstBreak p ws     the first place k after which word k + 1 is not z times word k, or the place of the last word
+--   modulusOf ws        a polynomial by which ws may be powers: what is taken off after the first break in doubling; 1 where there is none
+--   arePowers ws        that polynomial has constant term 1, and each word is z times the one before
+--   Small ws            the words have at most 32 digits
+use Prim.Native.Nat.{ℕ, _+_, _-_, _*_, _%_, _<_, min}
+use mathlib.Core.Bool.{Bool, _&&_, not, cond}
+use mathlib.Core.List.{List}
+use lib.Dec.{eqb, leb}
+use lib.ListN.{length, getD}
+use Rattle.finite.specs.Search.{least}
+use Rattle.gf2.specs.Xor.{_⊕_}
+
+unfoldable pub timesZ : ℕ → ℕ → ℕ
+timesZ p x = min (2 * x) (2 * x ⊕ p)
+
+-- word k + 1 is not z times word k
+unfoldable pub breaksAt : ℕ → List ℕ → ℕ → Bool
+breaksAt p ws k = not (eqb (timesZ p (getD ws k 0)) (getD ws (k + 1) 0))
+
+unfoldable pub firstBreak : ℕ → List ℕ → ℕ
+firstBreak p ws = least (length ws - 1) (breaksAt p ws)
+
+unfoldable pub modulusOf : List ℕ → ℕ
+modulusOf ws =
+    let k = firstBreak 0 ws in
+    cond (leb (length ws) (k + 1)) 1 (2 * getD ws k 0 ⊕ getD ws (k + 1) 0)
+
+unfoldable pub arePowers : List ℕ → Bool
+arePowers ws = let p = modulusOf ws in eqb (p % 2) 1 && leb (length ws) (firstBreak p ws + 1)
+
+abbrev pub Small : List ℕ → Type 0
+Small ws = (k : ℕ) → k < length ws → getD ws k 0 < 4294967296
