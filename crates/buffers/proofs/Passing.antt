@@ -1,18 +1,18 @@
 -- The checks of a call pass exactly where the plan is accepted and the buffers are right.
 --
 --   stops, goes-on           the answer of a sequence of checks: the first part refuses; it passes, and the rest answers
---   else-joined              checks in sequence may be taken together
---   write-joined, read-joined   the checks before writing and before reading, as the shared ones and check 13
---   cells-most, size-most, bytes-most   a sheet has at most 512 × 698 cells, and so few data bits; 88 bytes a row
+--   checked-passes, checked-stops, checked-goes-on   the same of checks that leave the column table unpacked
+--   size-most, bytes-most    there are at most 512 × 698 data bits, and 88 bytes a row
 --   length-right, right-length, unused-right, right-unused   each check passes exactly where its buffer is right
 --   Lengths                  what holds where checks 1 to 12 pass
 --   length-zero, lengths-pass   checks 1 to 12 pass exactly there
---   write-zero, writes-pass  the checks before writing pass exactly where Writes holds
---   read-zero, reads-pass    the checks before reading pass exactly where Reads holds
+--   MayWrite, MayRead        what holds where the checks before writing, and before reading, pass
+--   write-zero, writes-pass  the checks before writing pass exactly there
+--   read-zero, reads-pass    so do those before reading
 --
 -- Assumes nothing.
-use mathlib.Core.Path.{_≡_, refl, sym, ap, _∙_}
-use mathlib.Core.Bool.{Bool, true, false, not}
+use mathlib.Core.Path.{_≡_, sym, ap, _∙_}
+use mathlib.Core.Bool.{not}
 use mathlib.Core.List.{List}
 use Prim.Native.Nat.{ℕ, suc, _*_, _≤_}
 use native.Mathlib.Nat.{mul-le-mul}
@@ -25,13 +25,15 @@ use Rattle.layout.specs.Cells.{rowBytes, sheetBytes, firstUnused, RightForm}
 use Rattle.layout.proofs.Form.{form-unused, unused-form, row-sheet}
 use Rattle.boxcode.specs.Code.{Formed}
 use Rattle.boxcode.specs.Check.{dataSize}
+use Rattle.boxcode.proofs.Check.{sheet-cells}
 use Rattle.plan.specs.declared.verdict.Verdict.{Verdict}
 use Rattle.plan.specs.Verdict.{accepted, _orElse_}
 use Rattle.plan.specs.Bytes.{codeOf}
 use Rattle.plan.proofs.Sequence.{else-first, else-second, else-zero, if-zero}
 use Rattle.accept.specs.Verdict.{planVerdict, Accepted}
+use Rattle.accept.specs.Checked.{Checked}
 use Rattle.accept.proofs.Acceptance.{accepted-plan, plan-accepted}
-use Rattle.buffers.specs.Buffers.{lengthVerdict, unusedVerdict, lengthChecks, writeChecks, readChecks, Writes, Reads}
+use Rattle.buffers.specs.Buffers.{lengthVerdict, unusedVerdict, lengthChecks, writeChecks, readChecks}
 
 pub stops : (u v : Verdict) {x : Verdict} → x ≡ u → (x .number ≡ 0 → ⊥) → x ≡ u orElse v
 stops u v {x} e h = e ∙ sym (else-first u v (λ z. h (ap (λ (y : Verdict). y .number) e ∙ z)))
@@ -39,34 +41,25 @@ stops u v {x} e h = e ∙ sym (else-first u v (λ z. h (ap (λ (y : Verdict). y 
 pub goes-on : (u v : Verdict) {x : Verdict} → u .number ≡ 0 → x ≡ v → x ≡ u orElse v
 goes-on u v {x} p e = e ∙ sym (else-second u v p)
 
-pub else-joined : (u v w : Verdict) → (u orElse v) orElse w ≡ u orElse (v orElse w)
-unfolding _orElse_
-else-joined u v w = go (eqb (u .number) 0) refl
-  where
-    go : (t : Bool) → eqb (u .number) 0 ≡ t → (u orElse v) orElse w ≡ u orElse (v orElse w)
-    go true e = rw e
-    go false e = rw (e, e)
+-- the same of checks that leave the column table unpacked
+pub checked-passes : {plan words : List ℕ} {v r : Verdict} → Checked plan v r words → r .number ≡ 0 → v .number ≡ 0
+checked-passes C e = ap (λ (y : Verdict). y .number) (sym (C .verdict)) ∙ e
+
+pub checked-stops : {plan words : List ℕ} (u v : Verdict) {r : Verdict} → Checked plan u r words → (r .number ≡ 0 → ⊥) → Checked plan (u orElse v) r words
+checked-stops u v C n = record { verdict = stops u v (C .verdict) n; unpacked = λ z. absurd (n z) }
+
+pub checked-goes-on : {plan words : List ℕ} (u v : Verdict) {r x : Verdict} → Checked plan u r words → r .number ≡ 0 → x ≡ v
+    → Checked plan (u orElse v) x words
+checked-goes-on u v C e f = record { verdict = goes-on u v (checked-passes C e) f; unpacked = λ _. C .unpacked e }
 
 module _ (plan : List ℕ) where
-  pub cells-most : Formed (codeOf plan) → codeOf plan .n1 * codeOf plan .n2 ≤ 357376
-  cells-most F = mul-le-mul (F .n1-most) (F .n2-most)
-
   pub size-most : Formed (codeOf plan) → dataSize (codeOf plan) ≤ 357376
   unfolding dataSize
-  size-most F = let m = cells-most F in omega arith
+  size-most F = omega (arith, sheet-cells (F .n1-most) (F .n2-most))
 
   pub bytes-most : (m : ℕ) → Formed (codeOf plan) → m ≡ rowBytes (codeOf plan .n2) → codeOf plan .n1 * m ≤ 45056
   unfolding rowBytes
   bytes-most m F e = let w : m ≤ 88 = omega (arith, F .n2-most) in mul-le-mul (F .n1-most) w
-
-  pub write-joined : (bits sheet : List ℕ) → writeChecks plan bits sheet ≡ lengthChecks plan sheet bits orElse unusedVerdict 1 (dataSize (codeOf plan)) bits
-  unfolding writeChecks lengthChecks
-  write-joined bits sheet = sym (else-joined _ _ _ ∙ ap (λ (v : Verdict). planVerdict plan orElse v) (else-joined _ _ _))
-
-  pub read-joined : (sheet bits : List ℕ)
-      → readChecks plan sheet bits ≡ lengthChecks plan sheet bits orElse unusedVerdict (codeOf plan .n1) (codeOf plan .n2) sheet
-  unfolding readChecks lengthChecks
-  read-joined sheet bits = sym (else-joined _ _ _ ∙ ap (λ (v : Verdict). planVerdict plan orElse v) (else-joined _ _ _))
 
 -- ---- each check
 
@@ -81,8 +74,10 @@ right-length number s size e = rw (eq-eqb (length s) size e)
 pub unused-right : (n1 n2 : ℕ) (s : List ℕ) → length s ≡ sheetBytes n1 n2 → unusedVerdict n1 n2 s .number ≡ 0 → RightForm n1 n2 s
 unfolding unusedVerdict firstUnused
 unused-right n1 n2 s l e =
-    let u : sheetBytes n1 n2 ≤ firstUnused n1 n2 s = ltb-false (firstUnused n1 n2 s) (sheetBytes n1 n2) (if-zero (ltb (firstUnused n1 n2 s) (sheetBytes n1 n2)) 12 (firstUnused n1 n2 s) 0 e) in
-    let m : firstUnused n1 n2 s ≤ sheetBytes n1 n2 = least-le (sheetBytes n1 n2) _ in
+    let k = firstUnused n1 n2 s in
+    let n = sheetBytes n1 n2 in
+    let u : n ≤ k = ltb-false k n (if-zero (ltb k n) 12 k 0 e) in
+    let m : k ≤ n = least-le n _ in
     unused-form n1 n2 s l (omega arith)
 
 pub right-unused : (n1 n2 : ℕ) (s : List ℕ) → RightForm n1 n2 s → unusedVerdict n1 n2 s ≡ accepted
@@ -113,38 +108,37 @@ lengths-pass plan sheet bits L =
     ∙ else-second (lengthVerdict 11 sheet _) _ (number-of (right-length 11 sheet _ (L .sheet-size)))
     ∙ right-length 12 bits _ (L .bits-size)
 
-pub write-zero : (plan bits sheet : List ℕ) → writeChecks plan bits sheet .number ≡ 0 → Writes plan bits sheet
-write-zero plan bits sheet e =
-    let p = else-zero (lengthChecks plan sheet bits) _ (ap (λ (v : Verdict). v .number) (sym (write-joined plan bits sheet)) ∙ e) in
-    let L = length-zero plan sheet bits (p .0) in
-    record {
-      accepted = L .accepted;
-      sheet-size = L .sheet-size;
-      bits-size = L .bits-size;
-      form = unused-right 1 (dataSize (codeOf plan)) bits (L .bits-size ∙ sym (row-sheet (dataSize (codeOf plan)))) (p .1);
-    }
+pub record MayWrite (plan bits sheet : List ℕ) : Type 0 where
+  pub lengths : Lengths plan sheet bits
+  pub form : RightForm 1 (dataSize (codeOf plan)) bits
 
-pub writes-pass : (plan bits sheet : List ℕ) → Writes plan bits sheet → writeChecks plan bits sheet ≡ accepted
+pub record MayRead (plan sheet bits : List ℕ) : Type 0 where
+  pub lengths : Lengths plan sheet bits
+  pub form : RightForm (codeOf plan .n1) (codeOf plan .n2) sheet
+
+pub write-zero : (plan bits sheet : List ℕ) → writeChecks plan bits sheet .number ≡ 0 → MayWrite plan bits sheet
+unfolding writeChecks
+write-zero plan bits sheet e =
+    let k = dataSize (codeOf plan) in
+    let p = else-zero (lengthChecks plan sheet bits) _ e in
+    let L = length-zero plan sheet bits (p .0) in
+    record { lengths = L; form = unused-right 1 k bits (L .bits-size ∙ sym (row-sheet k)) (p .1) }
+
+pub writes-pass : (plan bits sheet : List ℕ) → MayWrite plan bits sheet → writeChecks plan bits sheet ≡ accepted
+unfolding writeChecks
 writes-pass plan bits sheet w =
-    write-joined plan bits sheet
-    ∙ else-second (lengthChecks plan sheet bits) _
-    (number-of (lengths-pass plan sheet bits (record { accepted = w .accepted; sheet-size = w .sheet-size; bits-size = w .bits-size })))
+    else-second (lengthChecks plan sheet bits) _ (number-of (lengths-pass plan sheet bits (w .lengths)))
     ∙ right-unused 1 (dataSize (codeOf plan)) bits (w .form)
 
-pub read-zero : (plan sheet bits : List ℕ) → readChecks plan sheet bits .number ≡ 0 → Reads plan sheet bits
+pub read-zero : (plan sheet bits : List ℕ) → readChecks plan sheet bits .number ≡ 0 → MayRead plan sheet bits
+unfolding readChecks
 read-zero plan sheet bits e =
-    let p = else-zero (lengthChecks plan sheet bits) _ (ap (λ (v : Verdict). v .number) (sym (read-joined plan sheet bits)) ∙ e) in
+    let p = else-zero (lengthChecks plan sheet bits) _ e in
     let L = length-zero plan sheet bits (p .0) in
-    record {
-      accepted = L .accepted;
-      sheet-size = L .sheet-size;
-      bits-size = L .bits-size;
-      form = unused-right (codeOf plan .n1) (codeOf plan .n2) sheet (L .sheet-size) (p .1);
-    }
+    record { lengths = L; form = unused-right (codeOf plan .n1) (codeOf plan .n2) sheet (L .sheet-size) (p .1) }
 
-pub reads-pass : (plan sheet bits : List ℕ) → Reads plan sheet bits → readChecks plan sheet bits ≡ accepted
+pub reads-pass : (plan sheet bits : List ℕ) → MayRead plan sheet bits → readChecks plan sheet bits ≡ accepted
+unfolding readChecks
 reads-pass plan sheet bits r =
-    read-joined plan sheet bits
-    ∙ else-second (lengthChecks plan sheet bits) _
-    (number-of (lengths-pass plan sheet bits (record { accepted = r .accepted; sheet-size = r .sheet-size; bits-size = r .bits-size })))
+    else-second (lengthChecks plan sheet bits) _ (number-of (lengths-pass plan sheet bits (r .lengths)))
     ∙ right-unused (codeOf plan .n1) (codeOf plan .n2) sheet (r .form)

@@ -1,2 +1,3 @@
 // The checks of a call, before it touches a buffer: the plan, and then the lent buffers (document 01, checks 1 to 13).
+pub mod call;
 pub mod lent;

@@ -23,7 +23,7 @@ use Rattle.plan.specs.declared.verdict.Verdict.{Verdict}
 use Rattle.plan.proofs.Sequence.{else-first}
 use Rattle.accept.specs.Verdict.{planVerdict}
 use Rattle.accept.proofs.Acceptance.{accepted-plan}
-use Rattle.buffers.specs.Buffers.{readChecks}
+use Rattle.buffers.specs.Buffers.{lengthChecks, readChecks}
 use Rattle.reader.specs.Read.{Outcome, readVerdict, readOutcome}
 use Rattle.line.specs.Text.{space, hexText}
 use Rattle.line.specs.Line.{planSize, planPart, sheetPart, dataField, okLine, noLine, lineFrom, dataBytes, lineOf}
@@ -54,9 +54,13 @@ rest-part n l = let e = length-drop n l in take-all (length l - n) (drop n l) (o
 -- ---- a plan that is refused
 
 module _ (plan sheet bits : List ℕ) (h : planVerdict plan .number ≡ 0 → ⊥) where
+  lengths-plan : lengthChecks plan sheet bits ≡ planVerdict plan
+  unfolding lengthChecks
+  lengths-plan = else-first (planVerdict plan) _ h
+
   checks-plan : readChecks plan sheet bits ≡ planVerdict plan
   unfolding readChecks
-  checks-plan = else-first (planVerdict plan) _ h
+  checks-plan = else-first (lengthChecks plan sheet bits) _ (λ z. h (ap (λ (v : Verdict). v .number) (sym lengths-plan) ∙ z)) ∙ lengths-plan
 
   verdict-plan : readVerdict plan sheet bits ≡ planVerdict plan
   unfolding readVerdict
@@ -75,8 +79,8 @@ line-right plan sheet k d = go (eqb (planVerdict plan .number) 0) refl
     go true e = ap (λ (n : ℕ). lineFrom (readOutcome plan sheet (replicate n 0))) (d .right (accepted-plan plan (eqb-true _ _ e)))
     go false e = let f = eqb-false (planVerdict plan .number) 0 e in refused-line plan sheet _ f ∙ sym (refused-line plan sheet _ f)
 
-pub line-made : (input plan sheet bits : List ℕ) (n k : ℕ) → n ≡ planSize input → plan ≡ take n input → sheet ≡ drop n input → bits ≡ replicate k 0 → DataSize plan k
-    → lineFrom (readOutcome plan sheet bits) ≡ lineOf input
+pub line-made : (input plan sheet bits : List ℕ) (n k : ℕ) → n ≡ planSize input → plan ≡ take n input → sheet ≡ drop n input → bits ≡ replicate k 0
+    → DataSize plan k → lineFrom (readOutcome plan sheet bits) ≡ lineOf input
 unfolding lineOf planPart sheetPart
 line-made input plan sheet bits n k en ep es eb d =
     ap (λ (b : List ℕ). lineFrom (readOutcome plan sheet b)) eb

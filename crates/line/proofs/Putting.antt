@@ -72,7 +72,8 @@ within-same zero j n h l = within-one zero n (omega arith) ∙ sym (within-one j
 within-same (suc k) zero n h l = within-one (suc k) n (omega arith) ∙ sym (within-one zero n (omega arith))
 within-same (suc k) (suc j) n h l = go (ltb n 10) refl (λ i m. within-same k j (n / 10) i m)
   where
-    go : (t : Bool) → ltb n 10 ≡ t → (n / 10 ≤ k → n / 10 ≤ j → decimalWithin k (n / 10) ≡ decimalWithin j (n / 10)) → decimalWithin (suc k) n ≡ decimalWithin (suc j) n
+    go : (t : Bool) → ltb n 10 ≡ t → (n / 10 ≤ k → n / 10 ≤ j → decimalWithin k (n / 10) ≡ decimalWithin j (n / 10))
+        → decimalWithin (suc k) n ≡ decimalWithin (suc j) n
     go true e f = within-one (suc k) n (ltb-true n 10 e) ∙ sym (within-one (suc j) n (ltb-true n 10 e))
     go false e f =
         let m : 10 ≤ n = ltb-false n 10 e in

@@ -83,7 +83,7 @@ leaves plan ok bits old right l = rw checks
     checks : writeChecks plan bits old ≡ accepted
     checks =
         let A = accepted-plan plan ok in
-        writes-pass plan bits old (record { accepted = A; sheet-size = l; bits-size = bits-long plan A bits right; form = right })
+        writes-pass plan bits old (record { lengths = record { accepted = A; sheet-size = l; bits-size = bits-long plan A bits right }; form = right })
 
 -- ---- reading
 

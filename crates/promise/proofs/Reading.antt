@@ -40,7 +40,7 @@ module _ (plan : List ℕ) (A : Accepted plan) (sheet old : List ℕ) (form : Sh
   s = cellsOf plan sheet
 
   checks : readChecks plan sheet old ≡ accepted
-  checks = reads-pass plan sheet old (record { accepted = A; sheet-size = form .size; bits-size = l; form = form })
+  checks = reads-pass plan sheet old (record { lengths = record { accepted = A; sheet-size = form .size; bits-size = l }; form = form })
 
   pub reads-mended : mendable c s ≡ true → readOutcome plan sheet old ≡ taken c sheet
   unfolding readOutcome readVerdict _orElse_ burstIn mendable

@@ -39,7 +39,7 @@ use Rattle.plan.specs.Verdict.{accepted, refusal}
 use Rattle.plan.specs.Bytes.{codeOf}
 use Rattle.accept.specs.Verdict.{planVerdict, Accepted}
 use Rattle.mend.specs.Report.{reportAs}
-use Rattle.payload.specs.Transfer.{packedData}
+use Rattle.payload.specs.Packed.{packedData}
 use Rattle.writer.specs.Write.{writtenBytes, write, wrote}
 use Rattle.reader.specs.Read.{Outcome, refused, readOutcome}
 

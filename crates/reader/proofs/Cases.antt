@@ -11,14 +11,14 @@ use Rattle.layout.specs.Cells.{cellOf}
 use Rattle.boxcode.proofs.Reader.{mendable}
 use Rattle.plan.specs.Bytes.{codeOf}
 use Rattle.plan.proofs.Sequence.{else-zero}
-use Rattle.buffers.specs.Buffers.{readChecks, Reads}
-use Rattle.buffers.proofs.Passing.{read-zero}
+use Rattle.buffers.specs.Buffers.{readChecks}
+use Rattle.buffers.proofs.Passing.{MayRead, read-zero}
 use Rattle.mend.proofs.First.{first-has}
 use Rattle.reader.specs.Read.{burstIn, readVerdict}
 
 module _ (plan sheet bits : List ℕ) where
   pub zero-reads : readVerdict plan sheet bits .number ≡ 0
-      → Reads plan sheet bits × (mendable (codeOf plan) (cellOf (codeOf plan .n2) sheet) ≡ true)
+      → MayRead plan sheet bits × (mendable (codeOf plan) (cellOf (codeOf plan .n2) sheet) ≡ true)
   unfolding readVerdict burstIn mendable
   zero-reads e =
       let z = else-zero (readChecks plan sheet bits) _ e in

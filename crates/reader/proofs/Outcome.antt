@@ -6,7 +6,6 @@
 --   burst-on            the rectangle of a burst that was found lies on the sheet
 --   burst-sheet, burst-bits, burst-report   turning it over gives the mended sheet; the data of those bytes; its report
 --   burst-taken         all of a read that succeeds
---   accepted-with       an accepted plan, with its header
 --
 -- Assumes nothing.
 use mathlib.Core.Path.{_≡_, sym, ap, _∙_}
@@ -22,16 +21,12 @@ use Rattle.boxcode.specs.Burst.{boxCells}
 use Rattle.boxcode.specs.Check.{dataSize, dataOf}
 use Rattle.boxcode.specs.Reader.{change, mended}
 use Rattle.boxcode.proofs.Fill.{data-cells}
-use Rattle.plan.specs.declared.header.Header.{Header}
 use Rattle.plan.specs.declared.verdict.Verdict.{Verdict}
 use Rattle.plan.specs.Verdict.{accepted, refusal}
-use Rattle.plan.specs.Header.{headerOf}
 use Rattle.plan.specs.Bytes.{codeOf}
 use Rattle.plan.proofs.Sequence.{else-first, else-second}
-use Rattle.accept.specs.Verdict.{Accepted}
 use Rattle.buffers.specs.Buffers.{readChecks}
 use Rattle.mend.specs.declared.report.Report.{Report}
-use Rattle.plan.specs.Accepted.{AcceptedWith}
 use Rattle.mend.specs.declared.found.Found.{Found}
 use Rattle.mend.specs.declared.found.Found.the-variants.{Burst, Nothing}
 use Rattle.mend.specs.Found.{foundVerdict, IsBurst, FoundFor}
@@ -39,7 +34,7 @@ use Rattle.mend.specs.Report.{boxReport, reportAs}
 use Rattle.mend.proofs.First.{first-report}
 use Rattle.mend.proofs.Rectangle.{found-report}
 use Rattle.reader.specs.Turn.{Rectangle, boxTurned}
-use Rattle.reader.specs.Read.{Outcome, burstIn, readVerdict, sheetRead, bitsRead, reportRead, refused, taken, mendOutcome, readOutcome}
+use Rattle.reader.specs.Read.{burstIn, readVerdict, sheetRead, bitsRead, reportRead, refused, taken, mendOutcome, readOutcome}
 use Rattle.reader.proofs.Turned.{box-turned}
 
 -- ---- which checks decide
@@ -102,9 +97,3 @@ module _ (c : Code) (F : Formed c) (s : List ℕ) (f : RightForm (c .n1) (c .n2)
       let e = er ∙ burst-report in
       let eb = eu ∙ burst-bits c F s t es in
       λ i. record { verdict = ev i; report = e i; sheet = es i; bits = eb i }
-
--- ---- an accepted plan
-
-pub accepted-with : (plan : List ℕ) (h : Header) → h ≡ headerOf plan → Accepted plan → AcceptedWith plan h
-unfolding codeOf
-accepted-with plan h e A = rw e (record { framed = A .framed; formed = A .formed; conditions = A .conditions })

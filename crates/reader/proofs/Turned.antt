@@ -21,7 +21,7 @@ use lib.ListN.{length}
 use lib.Arith.{digits-lt, digits-div, digits-mod}
 use Rattle.finite.specs.Search.{bit}
 use Rattle.finite.proofs.Truth.{Truth, is-true, is-false, true-or-false, xor-none, in-within}
-use Rattle.layout.specs.Cells.{RightForm, cellOf, bytesOf, turned, turnedIf}
+use Rattle.layout.specs.Cells.{RightForm, cellOf, bytesOf, turnedIf}
 use Rattle.layout.proofs.Form.{same-bytes, bytes-form, bytes-cell}
 use Rattle.layout.proofs.Turned.{turned-form, turned-cell, turned-if-length}
 use Rattle.boxcode.specs.Syndrome.{Cells, flip}

@@ -24,7 +24,7 @@ use Rattle.plan.specs.declared.verdict.Verdict.{Verdict}
 use Rattle.plan.specs.Verdict.{accepted, _orElse_}
 use Rattle.plan.specs.Bytes.{codeOf}
 use Rattle.buffers.specs.Buffers.{readChecks}
-use Rattle.payload.specs.Transfer.{packedData}
+use Rattle.payload.specs.Packed.{packedData}
 use Rattle.mend.specs.declared.report.Report.{Report}
 use Rattle.mend.specs.Report.{reportAs}
 use Rattle.mend.specs.declared.found.Found.{Found}

@@ -5,6 +5,7 @@ ghost use Rattle.layout.specs.Cells.{rowBytes, sheetBytes, cellOf, RightForm};
 ghost use Rattle.boxcode.specs.Syndrome.{rowSyndrome, columnSyndrome};
 ghost use Rattle.boxcode.specs.Check.{dataSize};
 ghost use Rattle.plan.specs.Bytes.{codeWith};
+ghost use Rattle.plan.specs.Table.{Unpacked};
 ghost use Rattle.plan.specs.Accepted.{AcceptedWith};
 ghost use Rattle.mend.specs.Found.{FoundFor, IsBurst};
 ghost use Rattle.reader.specs.Read.{outcome, taken};
@@ -15,19 +16,19 @@ use mend::found::Found;
 use mend::report::report_of;
 use payload::transfer::take;
 use plan::header::Header;
-use plan::table::column_table;
 use plan::verdict::accept;
 use syndrome::gather::sums;
 
 // The burst with the two sums of a sheet, under an accepted plan.
-pub fn find_burst(plan: &[u8], h: Header, sheet: &[u8]) -> Found
+pub fn find_burst(plan: &[u8], h: Header, columns: &[u64], sheet: &[u8]) -> Found
     requires { ⌜ AcceptedWith (now plan) h ⌝ }
+    requires { ⌜ Unpacked (now plan) h (now columns) ⌝ }
     requires { ⌜ length (now sheet) ≡ sheetBytes (h .n1) (h .n2) ⌝ }
-    ensures { λ r. ⌜ FoundFor (codeWith (now (plan .entry)) h) (rowSyndrome (codeWith (now (plan .entry)) h) (cellOf (h .n2) (now (sheet .entry)))) (columnSyndrome (codeWith (now (plan .entry)) h) (cellOf (h .n2) (now (sheet .entry)))) r ⌝ }
+    ensures { λ r. ⌜ (let c = codeWith (now (plan .entry)) h in let s = cellOf (h .n2) (now (sheet .entry)) in
+        FoundFor c (rowSyndrome c s) (columnSyndrome c s) r) ⌝ }
 {
-    let columns = column_table(plan, h);
-    let s = sums(sheet, plan, h, &columns);
-    find(plan, h, &columns, s.row, s.column)
+    let s = sums(sheet, plan, h, columns);
+    find(plan, h, columns, s.row, s.column)
 }
 
 // Turns that burst over, takes the data of the mended sheet, and reports.
@@ -43,7 +44,8 @@ pub fn apply_burst(
     requires { ⌜ AcceptedWith (now plan) h ⌝ }
     requires { ⌜ RightForm (h .n1) (h .n2) (now sheet) ⌝ }
     requires { ⌜ length (now bits) ≡ rowBytes (dataSize (codeWith (now plan) h)) ⌝ }
-    requires { ⌜ IsBurst (codeWith (now plan) h) (rowSyndrome (codeWith (now plan) h) (cellOf (h .n2) (now sheet))) (columnSyndrome (codeWith (now plan) h) (cellOf (h .n2) (now sheet))) top left x ⌝ }
+    requires { ⌜ (let c = codeWith (now plan) h in let s = cellOf (h .n2) (now sheet) in
+        IsBurst c (rowSyndrome c s) (columnSyndrome c s) top left x) ⌝ }
     ensures { λ r. ⌜ outcome r (now (sheet .exit)) (now (bits .exit)) ≡ taken (codeWith (now (plan .entry)) h) (now (sheet .entry)) ⌝ }
 {
     turn_box(sheet, h.n1, h.n2, top, left, h.b1, h.b2, x);

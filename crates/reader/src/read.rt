@@ -4,26 +4,35 @@ ghost use lib.ListN.{length};
 ghost use Rattle.layout.specs.Cells.{rowBytes, RightForm};
 ghost use Rattle.boxcode.specs.Check.{dataSize};
 ghost use Rattle.plan.specs.Bytes.{codeWith};
+ghost use Rattle.plan.specs.Table.{Unpacked};
 ghost use Rattle.plan.specs.Accepted.{AcceptedWith};
 ghost use Rattle.reader.specs.Read.{outcome, mendOutcome, readOutcome};
 use crate::answer::Answer;
 use crate::answer::refused_as;
 use crate::burst::apply_burst;
 use crate::burst::find_burst;
-use buffers::lent::read_checks;
+use buffers::call::read_checks;
 use mend::found::Found;
 use plan::entry::header_of;
 use plan::header::Header;
 use plan::verdict::refuse;
 
 // Check 14, and the mend: only a burst that was found goes on to what writes.
-pub fn mend_sheet(plan: &[u8], h: Header, sheet: &mut [u8], bits: &mut [u8]) -> Answer
+pub fn mend_sheet(
+    plan: &[u8],
+    h: Header,
+    columns: &[u64],
+    sheet: &mut [u8],
+    bits: &mut [u8],
+) -> Answer
     requires { ⌜ AcceptedWith (now plan) h ⌝ }
+    requires { ⌜ Unpacked (now plan) h (now columns) ⌝ }
     requires { ⌜ RightForm (h .n1) (h .n2) (now sheet) ⌝ }
     requires { ⌜ length (now bits) ≡ rowBytes (dataSize (codeWith (now plan) h)) ⌝ }
-    ensures { λ r. ⌜ outcome r (now (sheet .exit)) (now (bits .exit)) ≡ mendOutcome (codeWith (now (plan .entry)) h) (now (sheet .entry)) (now (bits .entry)) ⌝ }
+    ensures { λ r. ⌜ outcome r (now (sheet .exit)) (now (bits .exit))
+        ≡ mendOutcome (codeWith (now (plan .entry)) h) (now (sheet .entry)) (now (bits .entry)) ⌝ }
 {
-    let Found::Burst(top, left, x) = find_burst(plan, h, sheet) else {
+    let Found::Burst(top, left, x) = find_burst(plan, h, columns, sheet) else {
         return refused_as(refuse(14, 0, 0));
     };
     apply_burst(plan, h, sheet, bits, top, left, x)
@@ -33,9 +42,10 @@ pub fn mend_sheet(plan: &[u8], h: Header, sheet: &mut [u8], bits: &mut [u8]) -> 
 pub fn read(plan: &[u8], sheet: &mut [u8], bits: &mut [u8]) -> Answer
     ensures { λ r. ⌜ outcome r (now (sheet .exit)) (now (bits .exit)) ≡ readOutcome (now (plan .entry)) (now (sheet .entry)) (now (bits .entry)) ⌝ }
 {
-    let checked = read_checks(plan, sheet, bits);
+    let mut columns = [0u64; 2792];
+    let checked = read_checks(plan, sheet, bits, &mut columns);
     if checked.number != 0 {
         return refused_as(checked);
     }
-    mend_sheet(plan, header_of(plan), sheet, bits)
+    mend_sheet(plan, header_of(plan), &columns, sheet, bits)
 }

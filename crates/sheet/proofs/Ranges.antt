@@ -24,10 +24,9 @@ use Rattle.plan.specs.declared.verdict.Verdict.{Verdict}
 use Rattle.plan.specs.Verdict.{refusal, _orElse_}
 use Rattle.plan.specs.Bytes.{codeOf}
 use Rattle.accept.specs.Verdict.{planVerdict}
-use Rattle.accept.proofs.Acceptance.{accepted-plan}
-use Rattle.accept.proofs.Range.{Fits, accepted-fits, else-fits, if-fits, at-fits, plan-fits}
-use Rattle.buffers.specs.Buffers.{lengthVerdict, unusedVerdict, writeChecks, readChecks}
-use Rattle.buffers.proofs.Passing.{bytes-most, size-most}
+use Rattle.accept.proofs.Range.{SmallVerdict, accepted-fits, else-fits, if-fits, at-fits, plan-fits}
+use Rattle.buffers.specs.Buffers.{lengthVerdict, unusedVerdict, sheetLength, dataLength, lengthChecks, writeChecks, readChecks}
+use Rattle.buffers.proofs.Passing.{bytes-most, size-most, length-zero}
 use Rattle.mend.specs.declared.report.Report.{Report}
 use Rattle.mend.specs.Report.{reportAs}
 use Rattle.mend.specs.declared.found.Found.{Found}
@@ -40,31 +39,29 @@ use Rattle.writer.specs.Write.{write}
 use Rattle.answer.specs.Answer.{InRange}
 use Rattle.sheet.specs.Calls.{verdictFields, reportFields}
 
-length-fits : (n : ℕ) (s : List ℕ) (size : ℕ) → n < 32 → Fits (lengthVerdict n s size)
+length-fits : (n : ℕ) (s : List ℕ) (size : ℕ) → n < 32 → SmallVerdict (lengthVerdict n s size)
 unfolding lengthVerdict
 length-fits n s size l =
     if-fits (not (eqb (length s) size)) (refusal n 0 0) (λ _. record { number-fits = l; p-fits = omega arith; q-fits = omega arith })
 
-unused-fits : (n1 n2 : ℕ) (s : List ℕ) → sheetBytes n1 n2 ≤ 45056 → Fits (unusedVerdict n1 n2 s)
+unused-fits : (n1 n2 : ℕ) (s : List ℕ) → sheetBytes n1 n2 ≤ 45056 → SmallVerdict (unusedVerdict n1 n2 s)
 unfolding unusedVerdict
 unused-fits n1 n2 s u =
     at-fits (sheetBytes n1 n2) (firstUnused n1 n2 s) (refusal 13 (firstUnused n1 n2 s) 0)
     (λ l. record { number-fits = omega arith; p-fits = omega arith; q-fits = omega arith })
 
--- the checks of the buffers, after those of the plan
-checks-fit : (plan sheet bits : List ℕ) (v : Verdict) → (Formed (codeOf plan) → Fits v)
-    → Fits (planVerdict plan orElse lengthVerdict 11 sheet (sheetBytes (codeOf plan .n1) (codeOf plan .n2))
-    orElse lengthVerdict 12 bits (rowBytes (dataSize (codeOf plan))) orElse v)
-checks-fit plan sheet bits v f =
-    else-fits (planVerdict plan) (eleven orElse twelve orElse v) (plan-fits plan)
-    (λ e. else-fits eleven (twelve orElse v) (length-fits 11 sheet (sheetBytes (codeOf plan .n1) (codeOf plan .n2)) (omega arith))
-    (λ _. else-fits twelve v (length-fits 12 bits (rowBytes (dataSize (codeOf plan))) (omega arith)) (λ _. f (accepted-plan plan e .formed))))
-  where
-    eleven : Verdict
-    eleven = lengthVerdict 11 sheet (sheetBytes (codeOf plan .n1) (codeOf plan .n2))
+-- checks 1 to 12, and then others
+lengths-fit : (plan sheet bits : List ℕ) → SmallVerdict (lengthChecks plan sheet bits)
+unfolding lengthChecks
+lengths-fit plan sheet bits =
+    let c = codeOf plan in
+    else-fits (planVerdict plan) (sheetLength c sheet orElse dataLength c bits) (plan-fits plan)
+    (λ _. else-fits (sheetLength c sheet) (dataLength c bits) (length-fits 11 sheet (sheetBytes (c .n1) (c .n2)) (omega arith))
+    (λ _. length-fits 12 bits (rowBytes (dataSize c)) (omega arith)))
 
-    twelve : Verdict
-    twelve = lengthVerdict 12 bits (rowBytes (dataSize (codeOf plan)))
+after-lengths : (plan sheet bits : List ℕ) (v : Verdict) → (Formed (codeOf plan) → SmallVerdict v) → SmallVerdict (lengthChecks plan sheet bits orElse v)
+after-lengths plan sheet bits v f =
+    else-fits (lengthChecks plan sheet bits) v (lengths-fit plan sheet bits) (λ e. f (length-zero plan sheet bits e .accepted .formed))
 
 data-bytes : (k : ℕ) → k ≤ 357376 → sheetBytes 1 k ≤ 45056
 unfolding sheetBytes rowBytes
@@ -74,23 +71,23 @@ sheet-bytes : (plan : List ℕ) → Formed (codeOf plan) → sheetBytes (codeOf 
 unfolding sheetBytes
 sheet-bytes plan F = bytes-most plan (rowBytes (codeOf plan .n2)) F refl
 
-pub write-fits : (plan bits sheet : List ℕ) → Fits (writeChecks plan bits sheet)
+pub write-fits : (plan bits sheet : List ℕ) → SmallVerdict (writeChecks plan bits sheet)
 unfolding writeChecks
 write-fits plan bits sheet =
-    checks-fit plan sheet bits (unusedVerdict 1 (dataSize (codeOf plan)) bits)
+    after-lengths plan sheet bits (unusedVerdict 1 (dataSize (codeOf plan)) bits)
     (λ F. unused-fits 1 (dataSize (codeOf plan)) bits (data-bytes (dataSize (codeOf plan)) (size-most plan F)))
 
-reads-fit : (plan sheet bits : List ℕ) → Fits (readChecks plan sheet bits)
+reads-fit : (plan sheet bits : List ℕ) → SmallVerdict (readChecks plan sheet bits)
 unfolding readChecks
 reads-fit plan sheet bits =
-    checks-fit plan sheet bits (unusedVerdict (codeOf plan .n1) (codeOf plan .n2) sheet)
+    after-lengths plan sheet bits (unusedVerdict (codeOf plan .n1) (codeOf plan .n2) sheet)
     (λ F. unused-fits (codeOf plan .n1) (codeOf plan .n2) sheet (sheet-bytes plan F))
 
-found-fits : (r : Found) → Fits (foundVerdict r)
+found-fits : (r : Found) → SmallVerdict (foundVerdict r)
 found-fits (Burst top left x) = accepted-fits
 found-fits Nothing = record { number-fits = omega arith; p-fits = omega arith; q-fits = omega arith }
 
-pub read-fits : (plan sheet bits : List ℕ) → Fits (readOutcome plan sheet bits .verdict)
+pub read-fits : (plan sheet bits : List ℕ) → SmallVerdict (readOutcome plan sheet bits .verdict)
 unfolding readOutcome readVerdict
 read-fits plan sheet bits =
     go (eqb (readVerdict plan sheet bits .number) 0)
@@ -99,8 +96,8 @@ read-fits plan sheet bits =
     found : Found
     found = burstIn (codeOf plan) sheet
 
-    go : (t : Bool) → Fits (readVerdict plan sheet bits)
-        → Fits (cond t (taken (codeOf plan) sheet) (refused (readVerdict plan sheet bits) sheet bits) .verdict)
+    go : (t : Bool) → SmallVerdict (readVerdict plan sheet bits)
+        → SmallVerdict (cond t (taken (codeOf plan) sheet) (refused (readVerdict plan sheet bits) sheet bits) .verdict)
     go true f = accepted-fits
     go false f = f
 
@@ -135,12 +132,12 @@ report-fits plan sheet bits = go (eqb (readVerdict plan sheet bits .number) 0) r
         → FiveFit (cond t (taken (codeOf plan) sheet) (refused (readVerdict plan sheet bits) sheet bits) .report)
     go true e =
         let z = zero-reads plan sheet bits (eqb-true (readVerdict plan sheet bits .number) 0 e) in
-        burst-fits (codeOf plan) (z .0 .accepted .formed) sheet (z .1)
+        burst-fits (codeOf plan) (z .0 .lengths .accepted .formed) sheet (z .1)
     go false e = none-fits
 
 -- ---- the fields of an answer
 
-fields-range : (v : Verdict) (r : Report) → Fits v → FiveFit r → InRange (reportFields v r)
+fields-range : (v : Verdict) (r : Report) → SmallVerdict v → FiveFit r → InRange (reportFields v r)
 fields-range v r f g = record {
   number-fits = f .number-fits;
   p-fits = f .p-fits;

@@ -13,7 +13,8 @@ use writer::writing::write;
 pub extern "C" fn sheet_plan_test(plan: &[u8]) -> u64
     ensures { λ r. ⌜ r ≡ planAnswer (now (plan .entry)) ⌝ }
 {
-    let tested = test(plan);
+    let mut words = [0u64; 2792];
+    let tested = test(plan, &mut words);
     pack(Answer {
         number: tested.number,
         p: tested.p,

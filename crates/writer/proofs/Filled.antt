@@ -22,7 +22,7 @@ use Rattle.finite.specs.Search.{bit, numberOf}
 use Rattle.finite.proofs.Truth.{clash, not-true, same-truth, and-true, and-false, xor-none, xor-light, both-equal, equal-both}
 use Rattle.finite.proofs.Digits.{bit-none, bit-number}
 use Rattle.gf2.specs.Sum.{chosenSum}
-use Rattle.layout.specs.Cells.{cellOf, bytesOf, turned, turnedIf}
+use Rattle.layout.specs.Cells.{cellOf, bytesOf, turnedIf}
 use Rattle.layout.proofs.Form.{bytes-cell, bytes-equal}
 use Rattle.layout.proofs.Turned.{turned-if-bytes, turned-if-length}
 use Rattle.boxcode.specs.Code.{Code, Formed, cellNumber, jointWeight, checkJoint}
@@ -58,7 +58,9 @@ digit-more n j y = go (ℕ-discrete j n)
     kept h (no l) = le-ltb j n (omega arith) ∙ sym (le-ltb j (suc n) (omega arith))
 
     go : Dec (j ≡ n) → xor (ltb j n && bit y j) (bit y n && eqb n j) ≡ (ltb j (suc n) && bit y j)
-    go (yes e) = rw (le-ltb j n (omega arith), eq-eqb n j (sym e), lt-ltb j (suc n) (omega arith)) (xor-light (bit y n && true) ∙ and-true (bit y n) ∙ ap (bit y) (sym e))
+    go (yes e) =
+        rw (le-ltb j n (omega arith), eq-eqb n j (sym e), lt-ltb j (suc n) (omega arith))
+        (xor-light (bit y n && true) ∙ and-true (bit y n) ∙ ap (bit y) (sym e))
     go (no h) =
         ap₂ (λ (a b : Bool). xor (a && bit y j) (bit y n && b)) (kept h (decLt j n)) (ne-eqb n j (λ e. h (sym e)))
         ∙ ap (xor (ltb j (suc n) && bit y j)) (and-false (bit y n))
@@ -77,7 +79,8 @@ module _ (c : Code) (F : Formed c) where
       equal-both (c .checkRow k) (c .checkColumn k) (c .checkRow j) (c .checkColumn j) (ap (c .checkRow) e) (ap (c .checkColumn) e))
 
   -- no check cell holds data
-  no-data : (k d : ℕ) → k < c .rv + c .rh → d < dataSize c → (eqb (c .checkRow k) (dataCell c d / c .n2) && eqb (c .checkColumn k) (dataCell c d % c .n2)) ≡ false
+  no-data : (k d : ℕ) → k < c .rv + c .rh → d < dataSize c
+      → (eqb (c .checkRow k) (dataCell c d / c .n2) && eqb (c .checkColumn k) (dataCell c d % c .n2)) ≡ false
   no-data k d lk ld =
       not-true (eqb (c .checkRow k) (dataCell c d / c .n2) && eqb (c .checkColumn k) (dataCell c d % c .n2))
       (λ t.
@@ -140,7 +143,8 @@ module _ (c : Code) (F : Formed c) where
     pub filled-sum : (y : ℕ) → weightSum (c .n1) (c .n2) (jointWeight c) (cellOf (c .n2) (bytesOf (c .n1) (c .n2) (fill c x y)))
         ≡ weightSum (c .n1) (c .n2) (jointWeight c) (fill c x y)
     filled-sum y =
-        weight-cells (c .n1) (c .n2) (jointWeight c) (cellOf (c .n2) (bytesOf (c .n1) (c .n2) (fill c x y))) (fill c x y) (bytes-cell (c .n1) (c .n2) (fill c x y))
+        weight-cells (c .n1) (c .n2) (jointWeight c) (cellOf (c .n2) (bytesOf (c .n1) (c .n2) (fill c x y))) (fill c x y)
+        (bytes-cell (c .n1) (c .n2) (fill c x y))
 
     pub filled-written : Conditions c → (y : ℕ)
         → chosenSum (c .rv + c .rh) (bit y) (checkJoint c) ≡ weightSum (c .n1) (c .n2) (jointWeight c) (fill c x 0)

@@ -20,12 +20,14 @@ use Rattle.accept.specs.Verdict.{Accepted}
 use Rattle.buffers.specs.Buffers.{writeChecks}
 use Rattle.writer.specs.Write.{dataBits, writtenBytes, wrote, write}
 
-pub write-refused : (plan bits sheet : List ℕ) → (writeChecks plan bits sheet .number ≡ 0 → ⊥) → write plan bits sheet ≡ wrote (writeChecks plan bits sheet) sheet
+pub write-refused : (plan bits sheet : List ℕ) → (writeChecks plan bits sheet .number ≡ 0 → ⊥)
+    → write plan bits sheet ≡ wrote (writeChecks plan bits sheet) sheet
 unfolding write
 write-refused plan bits sheet h = rw (ne-eqb (writeChecks plan bits sheet .number) 0 h)
 
 -- where the checks gave 0, as the code meets it
-pub write-done : (plan bits sheet : List ℕ) → writeChecks plan bits sheet .number ≡ 0 → write plan bits sheet ≡ wrote (writeChecks plan bits sheet) (writtenBytes plan bits)
+pub write-done : (plan bits sheet : List ℕ) → writeChecks plan bits sheet .number ≡ 0
+    → write plan bits sheet ≡ wrote (writeChecks plan bits sheet) (writtenBytes plan bits)
 unfolding write
 write-done plan bits sheet e = rw (eq-eqb (writeChecks plan bits sheet .number) 0 e)
 

@@ -9,24 +9,23 @@ ghost use Rattle.boxcode.specs.Code.{Formed, checkJoint};
 ghost use Rattle.boxcode.specs.Condition.{Conditions};
 ghost use Rattle.plan.specs.Header.{Framed};
 ghost use Rattle.plan.specs.Bytes.{codeWith};
+ghost use Rattle.plan.specs.Table.{Unpacked};
 ghost use Rattle.writer.specs.Steps.{JointSum};
 use accept::checks::check_joints;
 use gf2::Solution;
-use gf2::solve;
-use gf2::solver_of;
+use gf2::find_combination;
 use plan::header::Header;
-use plan::table::column_table;
 use syndrome::gather::sums;
 
 // The joint sum of a sheet: its V sum, and its H sum above the rv digits of that.
-pub fn joint_sum(sheet: &[u8], plan: &[u8], h: Header) -> u64
+pub fn joint_sum(sheet: &[u8], plan: &[u8], h: Header, columns: &[u64]) -> u64
     requires { ⌜ Framed (now plan) h ⌝ }
     requires { ⌜ Formed (codeWith (now plan) h) ⌝ }
+    requires { ⌜ Unpacked (now plan) h (now columns) ⌝ }
     requires { ⌜ length (now sheet) ≡ sheetBytes (h .n1) (h .n2) ⌝ }
     ensures { λ r. ⌜ JointSum (codeWith (now (plan .entry)) h) (cellOf (h .n2) (now (sheet .entry))) r ⌝ }
 {
-    let columns = column_table(plan, h);
-    let s = sums(sheet, plan, h, &columns);
+    let s = sums(sheet, plan, h, columns);
     s.row + (1u64 << h.rv) * s.column
 }
 
@@ -40,10 +39,7 @@ pub fn check_digits(plan: &[u8], h: Header, target: u64) -> u64
 {
     let joints = check_joints(plan, h);
     let count = h.rv + h.rh;
-    let solver = solver_of(&joints[..count]);
-    let basis = solver.basis;
-    let combos = solver.combos;
-    let Solution::Combination(y) = solve(&basis, &combos, target) else {
+    let Solution::Combination(y) = find_combination(&joints[..count], target) else {
         return 0;
     };
     y

@@ -18,7 +18,8 @@ fn turn_check(plan: &[u8], h: Header, y: u64, k: usize, sheet: &mut [u8])
     requires { ⌜ Formed (codeWith (now plan) h) ⌝ }
     requires { ⌜ k < h .rv + h .rh ⌝ }
     requires { ⌜ length (now sheet) ≡ sheetBytes (h .n1) (h .n2) ⌝ }
-    ensures { λ _. ⌜ now (sheet .exit) ≡ turnedIf (bit y k) (h .n2) (now (sheet .entry)) (checkRowAt (now (plan .entry)) h k) (checkColumnAt (now (plan .entry)) h k) ⌝ }
+    ensures { λ _. ⌜ now (sheet .exit)
+        ≡ turnedIf (bit y k) (h .n2) (now (sheet .entry)) (checkRowAt (now (plan .entry)) h k) (checkColumnAt (now (plan .entry)) h k) ⌝ }
 {
     let cell = check_cell(plan, h, k);
     turn_if(sheet, h.n2, cell.row, cell.column, (y >> k) % 2 == 1);

@@ -7,17 +7,21 @@ use borrow.Author.Needs.{needs}
 use Rattle.sheet.proofs.sheet_plan_test.Statement.{statement}
 use Rattle.sheet.proofs.sheet_plan_test.Tie as tie
 
+slice-aggregate-test : tie.Need-slice-aggregate-test
+slice-aggregate-test c = search needs
+
 test-requires : tie.Need-test-requires
 test-requires c κs = search needs
 
 pack-requires : tie.Need-pack-requires
 pack-requires c κs =
-    let f : InRange (verdictFields (c .test .result)) = rw (c .test .ensures) (plan-range (c .before .before .args .plan .now)) in
+    let t = c .before .test in
+    let f : InRange (verdictFields (t .result)) = rw (t .ensures .verdict) (plan-range (c .before .before .before .before .args .plan .now)) in
     omega arith
 
 returns : tie.Need-returns
 unfolding planAnswer
-returns c = rw (← (c .before .test .ensures)) (c .pack .ensures)
+returns c = rw (← (c .before .before .test .ensures .verdict)) (c .pack .ensures)
 
 pub sheet-plan-test-spec : {M : Type 1} → statement M
-sheet-plan-test-spec = tie.close (tie.spec test-requires pack-requires returns)
+sheet-plan-test-spec = tie.close (tie.spec slice-aggregate-test test-requires pack-requires returns)

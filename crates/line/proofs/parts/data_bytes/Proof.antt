@@ -34,17 +34,24 @@ returns-3 c = record {
 returns-4 : tie.Need-returns-4
 returns-4 c = record {
   most = omega arith;
-  right = λ A. let e = ap (λ (h : Header). h .rv) (c .before .before .before .before .before .before .header-of .ensures) in absurd (omega (arith, A .framed .small .rv-most));
+  right = λ A.
+      let e = ap (λ (h : Header). h .rv) (c .before .before .before .before .before .before .header-of .ensures) in
+      absurd (omega (arith, A .framed .small .rv-most));
 }
 
 returns-5 : tie.Need-returns-5
 returns-5 c = record {
   most = omega arith;
-  right = λ A. let e = ap (λ (h : Header). h .rh) (c .before .before .before .before .before .before .before .before .header-of .ensures) in absurd (omega (arith, A .framed .small .rh-most));
+  right = λ A.
+      let e = ap (λ (h : Header). h .rh) (c .before .before .before .before .before .before .before .before .header-of .ensures) in
+      absurd (omega (arith, A .framed .small .rh-most));
 }
 
 mul-cells : tie.Need-mul-cells
-mul-cells c = let m = mul-le-mul (c .before .before .before .before .before .before .before .if2 .left) (c .before .before .before .before .before .if3 .left) in omega arith
+mul-cells c =
+    let p = c .before .before .before .before .before in
+    let m = mul-le-mul (p .before .before .if2 .left) (p .if3 .left) in
+    omega arith
 
 add-checks : tie.Need-add-checks
 add-checks c = search needs
@@ -54,21 +61,28 @@ unfolding codeOf
 returns-6 c = record {
   most = omega arith;
   right = λ A.
-      let p = ap (λ (h : Header). h .n1 * h .n2) (c .before .before .before .before .before .before .before .before .before .before .before .header-of .ensures) in
-      let q = ap (λ (h : Header). h .rv + h .rh) (c .before .before .before .before .before .before .before .before .before .before .before .header-of .ensures) in
+      let e = c .before .before .before .before .before .before .before .before .before .before .before .header-of .ensures in
+      let p = ap (λ (h : Header). h .n1 * h .n2) e in
+      let q = ap (λ (h : Header). h .rv + h .rh) e in
       absurd (omega (arith, checks-fit _ (A .formed)));
 }
 
 row-bytes-requires : tie.Need-row-bytes-requires
-row-bytes-requires c κs = let m = mul-le-mul (c .before .before .before .before .before .before .before .before .before .if2 .left) (c .before .before .before .before .before .before .before .if3 .left) in omega arith
+row-bytes-requires c κs =
+    let p = c .before .before .before .before .before .before .before in
+    let m = mul-le-mul (p .before .before .if2 .left) (p .if3 .left) in
+    omega arith
 
 returns-7 : tie.Need-returns-7
 unfolding dataBytes dataSize codeOf rowBytes
 returns-7 c =
-    let m = mul-le-mul (c .before .before .before .before .before .before .before .before .before .before .if2 .left) (c .before .before .before .before .before .before .before .before .if3 .left) in
+    let p = c .before .before .before .before .before .before .before .before in
+    let m = mul-le-mul (p .before .before .if2 .left) (p .if3 .left) in
     record {
       most = omega (arith, c .row-bytes .ensures);
-      right = λ A. c .row-bytes .ensures ∙ ap (λ (h : Header). rowBytes (h .n1 * h .n2 - (h .rv + h .rh))) (c .before .before .before .before .before .before .before .before .before .before .before .before .header-of .ensures);
+      right = λ A.
+          c .row-bytes .ensures
+          ∙ ap (λ (h : Header). rowBytes (h .n1 * h .n2 - (h .rv + h .rh))) (p .before .before .before .before .header-of .ensures);
     }
 
 pub data-bytes-spec : {M : Type 1} → statement M

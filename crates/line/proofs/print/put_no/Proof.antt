@@ -27,12 +27,13 @@ same-length c = search needs
 returns : tie.Need-returns
 unfolding noLine
 returns c =
-    let word = c .before .before .before .before .before .before .before .before .before .before .before .before .before .before .before .before .before .before .put-word .ensures in
-    let number = c .before .before .before .before .before .before .before .before .before .before .before .before .before .before .put-field .ensures .0 in
-    let p = c .before .before .before .before .before .before .before .before .before .before .put-field2 .ensures .0 in
-    let q = c .before .before .before .before .before .before .put-field3 .ensures .0 in
-    let last = c .before .before .put-byte .ensures in
-    (put-more (put-more (put-more (put-more word number) p) q) last, omega arith)
+    -- after each field, from the last to the first
+    let third = c .before .before .before .before .before .before in
+    let second = third .before .before .before .before in
+    let first = second .before .before .before .before in
+    let number = put-more (first .before .before .before .before .put-word .ensures) (first .put-field .ensures .0) in
+    let places = put-more (put-more number (second .put-field2 .ensures .0)) (third .put-field3 .ensures .0) in
+    (put-more places (c .before .before .put-byte .ensures), omega arith)
 
 pub put-no-spec : {M : Type 1} → statement M
 put-no-spec =

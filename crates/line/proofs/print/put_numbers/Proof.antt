@@ -27,12 +27,13 @@ same-length c = search needs
 returns : tie.Need-returns
 unfolding numbers
 returns c =
-    let cells = c .before .before .before .before .before .before .before .before .before .before .before .before .before .before .before .before .before .before .put-field .ensures .0 in
-    let top = c .before .before .before .before .before .before .before .before .before .before .before .before .before .before .put-field2 .ensures .0 in
-    let left = c .before .before .before .before .before .before .before .before .before .before .put-field3 .ensures .0 in
-    let height = c .before .before .before .before .before .before .put-field4 .ensures .0 in
-    let width = c .before .before .put-field5 .ensures .0 in
-    (put-more (put-more (put-more (put-more cells top) left) height) width, omega arith)
+    -- after each field, from the last to the first
+    let height = c .before .before .before .before .before .before in
+    let left = height .before .before .before .before in
+    let top = left .before .before .before .before in
+    let cells = put-more (top .before .before .before .before .put-field .ensures .0) (top .put-field2 .ensures .0) in
+    let corner = put-more cells (left .put-field3 .ensures .0) in
+    (put-more (put-more corner (height .put-field4 .ensures .0)) (c .before .before .put-field5 .ensures .0), omega arith)
 
 pub put-numbers-spec : {M : Type 1} → statement M
 put-numbers-spec =

@@ -76,7 +76,8 @@ put-decimal-returns : (t : ℕ) → put-decimal-lts.Need-returns (
   put-decimal.Post,
 ) (put-decimal-at t) put-decimal.Post
 put-decimal-returns t c =
-    put-as (c .before .before .put-byte .ensures) (ap (λ (d : ℕ). d ∷ []) (c .before .before .before .digit .ensures) ∙ sym (decimal-one _ (c .before .before .before .before .before .if1 .taken)))
+    put-as (c .before .before .put-byte .ensures)
+    (ap (λ (d : ℕ). d ∷ []) (c .before .before .before .digit .ensures) ∙ sym (decimal-one _ (c .before .before .before .before .before .if1 .taken)))
 
 put-decimal-put-decimal-requires : (t : ℕ) → put-decimal-lts.Need-put-decimal-requires (
   digit-reads.Asked,
@@ -142,8 +143,10 @@ put-decimal-returns-2 : (t : ℕ) → put-decimal-lts.Need-returns-2 (
   put-decimal.Post,
 ) (put-decimal-at t) put-decimal.Post
 put-decimal-returns-2 t c =
+    let x = c .before .before .before .before .before .before .before .before .before .before .before .args .x in
     put-as (put-more (c .before .before .before .before .before .before .before .put-decimal .ensures) (c .before .before .put-byte2 .ensures))
-    (ap (λ (d : ℕ). decimalBytes (c .before .before .before .before .before .before .before .before .before .before .before .args .x / 10) ++ (d ∷ [])) (c .before .before .before .digit2 .ensures) ∙ sym (decimal-more _ (c .before .before .before .before .before .before .before .before .before .if1 .left)))
+    (ap (λ (d : ℕ). decimalBytes (x / 10) ++ (d ∷ [])) (c .before .before .before .digit2 .ensures)
+    ∙ sym (decimal-more _ (c .before .before .before .before .before .before .before .before .before .if1 .left)))
 
 pub +put-decimal-spec : {M : Type 1} → statement M
 +put-decimal-spec = close μ-put-decimal λ t. put-decimal-lts.spec (

@@ -34,9 +34,11 @@ loop-less c = omega arith
 loop-again : tie.Need-loop-again Inv-loop μ-loop
 unfolding hexBytes
 loop-again c =
-    let v = c .before .before .before .before .before .before .loop .inv in
-    let h : c .before .before .before .before .before .before .loop .i < length (c .before .before .before .before .before .before .before .before .before .args .s .now) = omega arith in
-    (omega arith, omega (arith, c .before .before .put-hex .ensures .past), put-as (put-more (v .2) (c .before .before .put-hex .ensures)) (sym (hex-more _ _ h)))
+    let l = c .before .before .before .before .before .before .loop in
+    let s = c .before .before .before .before .before .before .before .before .before .args .s .now in
+    let p = c .before .before .put-hex .ensures in
+    let h : l .i < length s = omega arith in
+    (omega arith, omega (arith, p .past), put-as (put-more (l .inv .2) p) (sym (hex-more _ _ h)))
 
 same-length : tie.Need-same-length Inv-loop μ-loop
 same-length c = put-length (c .before .loop .inv .2)

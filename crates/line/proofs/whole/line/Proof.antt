@@ -44,7 +44,8 @@ slice-relend-prefix-read-line c = search needs
 
 slice-aggregate-read-line : tie.Need-slice-aggregate-read-line
 slice-aggregate-read-line c =
-    let h : c .before .before .before .before .before .before .before .before .copy .result ≤ length (c .before .before .before .before .before .before .before .before .copy .last .1 .0) = omega arith in
+    let p = c .before .before .before .before .before .before .before .before .copy in
+    let h : p .result ≤ length (p .last .1 .0) = omega arith in
     sym (length-take-le _ _ h)
 
 slice-relend-prefix-read-line-2 : tie.Need-slice-relend-prefix-read-line-2
@@ -57,7 +58,8 @@ slice-aggregate-read-line-2 c =
 
 read-line-requires : tie.Need-read-line-requires
 read-line-requires c κs =
-    let e = length-take (c .before .before .before .before .before .before .before .data-bytes .result) (c .before .before .before .before .before .clear .last .0) in
+    let p = c .before .before .before .before .before in
+    let e = length-take (p .before .before .data-bytes .result) (p .clear .last .0) in
     omega arith
 
 same-length : tie.Need-same-length

@@ -23,7 +23,10 @@ same-length-3 : tie.Need-same-length-3
 same-length-3 c = search needs
 
 returns : tie.Need-returns
-returns c = (put-as (c .before .before .put-no .ensures .0) (no-from _ (c .before .before .before .before .if1 .taken) ∙ ap lineFrom (c .before .before .before .before .before .before .before .before .before .before .before .read .ensures)), c .before .before .put-no .ensures .1)
+returns c =
+    let p = c .before .before .put-no .ensures in
+    let i = c .before .before .before .before in
+    (put-as (p .0) (no-from _ (i .if1 .taken) ∙ ap lineFrom (i .before .before .before .before .before .before .before .read .ensures)), p .1)
 
 put-ok-requires : tie.Need-put-ok-requires
 put-ok-requires c κs = search needs
@@ -38,7 +41,10 @@ same-length-6 : tie.Need-same-length-6
 same-length-6 c = search needs
 
 returns-2 : tie.Need-returns-2
-returns-2 c = (put-as (c .before .before .put-ok .ensures .0) (ok-from _ (c .before .before .before .before .before .if1 .left) ∙ ap lineFrom (c .before .before .before .before .before .before .before .before .before .before .before .before .read .ensures)), c .before .before .put-ok .ensures .1)
+returns-2 c =
+    let p = c .before .before .put-ok .ensures in
+    let i = c .before .before .before .before .before in
+    (put-as (p .0) (ok-from _ (i .if1 .left) ∙ ap lineFrom (i .before .before .before .before .before .before .before .read .ensures)), p .1)
 
 pub read-line-spec : {M : Type 1} → statement M
 read-line-spec =

@@ -30,7 +30,8 @@ returns : tie.Need-returns
 returns c =
     let a = c .before .before .before .before .before .before .before .before .before .before .before .before .before .before in
     burst-taken (codeWith (a .args .plan .now) (a .args .h)) (a .pre .0 .formed) _ (a .pre .1 .0) _ _ _ (a .pre .1 .1 .1) _ _ _ _
-    (c .before .accept .ensures) (c .report-of .ensures) (c .before .before .before .before .before .before .before .before .before .turn-box .ensures) (c .before .before .before .before .take .ensures)
+    (c .before .accept .ensures) (c .report-of .ensures) (c .before .before .before .before .before .before .before .before .before .turn-box .ensures)
+    (c .before .before .before .before .take .ensures)
 
 pub apply-burst-spec : {M : Type 1} → statement M
 apply-burst-spec =

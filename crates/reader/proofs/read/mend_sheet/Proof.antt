@@ -26,14 +26,16 @@ same-length c = search needs
 
 returns : tie.Need-returns
 returns c =
-    let a = c .before .before .before .before .before .before .before .before .before in
+    let a = c .before .before .before .before .before .before .before .before .before .before in
     rw (c .refused-as .ensures, c .before .refuse .ensures)
-    (mend-none (codeWith (a .args .plan .now) (a .args .h)) _ _ (rw (c .before .before .enum-told .given .1) at (c .before .before .before .before .find-burst .ensures)))
+    (mend-none (codeWith (a .args .plan .now) (a .args .h)) _ _
+    (rw (c .before .before .enum-told .given .1) at (c .before .before .before .before .find-burst .ensures)))
 
 apply-burst-requires : tie.Need-apply-burst-requires
 apply-burst-requires c κs =
-    let p = c .before .before .before .before .before .before .before .before .before .before .pre in
-    (p .0, (p .1 .0, (p .1 .1, (rw (c .before .before .before .top .given .1) at (c .before .before .before .before .before .find-burst .ensures)) .burst)))
+    let p = c .before .before .before .before .before .before .before .before .before .before .before .pre in
+    let b = rw (c .before .before .before .top .given .1) at (c .before .before .before .before .before .find-burst .ensures) in
+    (p .0, (p .1 .1 .0, (p .1 .1 .1, b .burst)))
 
 same-length-2 : tie.Need-same-length-2
 same-length-2 c = search needs
@@ -43,8 +45,9 @@ same-length-3 c = search needs
 
 returns-2 : tie.Need-returns-2
 returns-2 c =
-    let a = c .before .before .before .before .before .before .before .before .before .before .before .before .before .before .before in
-    let b = rw (c .before .before .before .before .before .before .before .before .top .given .1) at (c .before .before .before .before .before .before .before .before .before .before .find-burst .ensures) in
+    let a = c .before .before .before .before .before .before .before .before .before .before .before .before .before .before .before .before in
+    let t = c .before .before .before .before .before .before .before .before in
+    let b = rw (t .top .given .1) at (t .before .before .find-burst .ensures) in
     c .before .before .before .before .apply-burst .ensures ∙ mend-some (codeWith (a .args .plan .now) (a .args .h)) _ _ _ _ _ b
 
 pub mend-sheet-spec : {M : Type 1} → statement M

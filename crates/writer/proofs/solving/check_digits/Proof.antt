@@ -1,10 +1,9 @@
 -- `writer::solving::check_digits` meets its contract: the joint entries of the check cells span every target. Assumes nothing.
-use mathlib.Core.Path.{sym}
+use mathlib.Core.Path.{sym, _∙_}
 use native.Mathlib.Omega.{arith}
 use lib.Seq.{length-take-le}
-use Rattle.gf2.proofs.Answer.{solved-from}
 use Rattle.plan.specs.Bytes.{codeWith}
-use Rattle.writer.proofs.Solved.{combination-makes, never-outside}
+use Rattle.writer.proofs.Solved.{few-joints, free-joints, combination-makes, never-outside}
 use borrow.Author.Needs.{needs}
 use Rattle.writer.proofs.solving.check_digits.Statement.{statement}
 use Rattle.writer.proofs.solving.check_digits.Tie as tie
@@ -18,16 +17,18 @@ add-count c = search needs
 array-share-prefix-joints : tie.Need-array-share-prefix-joints
 array-share-prefix-joints c = search needs
 
-slice-aggregate-solver-of : tie.Need-slice-aggregate-solver-of
-slice-aggregate-solver-of c =
+slice-aggregate-find-combination : tie.Need-slice-aggregate-find-combination
+slice-aggregate-find-combination c =
     let j = c .before .before .check-joints .ensures in
     sym (length-take-le _ _ (omega arith))
 
-solver-of-requires : tie.Need-solver-of-requires
-solver-of-requires c κs = search needs
-
-solve-requires : tie.Need-solve-requires
-solve-requires c κs = search needs
+find-combination-requires : tie.Need-find-combination-requires
+find-combination-requires c κs =
+    let a = c .before .before .before .before in
+    let k = codeWith (a .args .plan .now) (a .args .h) in
+    let F = a .pre .1 .0 in
+    let K = a .pre .1 .1 .0 in
+    rw (c .before .before .check-joints .ensures .held) (few-joints k F K, free-joints k F K)
 
 enum-known-y : tie.Need-enum-known-y
 enum-known-y c = search needs
@@ -37,17 +38,19 @@ enum-told c = search needs
 
 returns : tie.Need-returns
 returns c =
-    let w = c .before .before .before .before .before .before .before in
-    let a = w .before .before .before .before .before in
-    absurd (never-outside (codeWith (a .args .plan .now) (a .args .h)) (a .pre .1 .0) (a .pre .1 .1 .0) (a .args .target) (a .pre .1 .1 .1)
-    (solved-from _ _ _ _ _ _ (c .before .before .solve .ensures) (w .solver-of .ensures) (w .before .before .before .check-joints .ensures .held) (c .enum-told .given .1)))
+    let w = c .before .before .before .before .before in
+    let a = w .before .before in
+    let k = codeWith (a .args .plan .now) (a .args .h) in
+    let e = rw (w .check-joints .ensures .held) at (sym (c .before .before .find-combination .ensures) ∙ c .enum-told .given .1) in
+    absurd (never-outside k (a .pre .1 .0) (a .pre .1 .1 .0) (a .args .target) (a .pre .1 .1 .1) e)
 
 returns-2 : tie.Need-returns-2
 returns-2 c =
-    let w = c .before .before .before .before .before .before .before .before in
-    let a = w .before .before .before .before .before in
-    combination-makes (codeWith (a .args .plan .now) (a .args .h)) (a .pre .1 .0) (a .pre .1 .1 .0) (a .args .target) (a .pre .1 .1 .1) _
-    (solved-from _ _ _ _ _ _ (c .before .before .before .solve .ensures) (w .solver-of .ensures) (w .before .before .before .check-joints .ensures .held) (c .before .y .given .1))
+    let w = c .before .before .before .before .before .before in
+    let a = w .before .before in
+    let k = codeWith (a .args .plan .now) (a .args .h) in
+    let e = rw (w .check-joints .ensures .held) at (sym (c .before .before .before .find-combination .ensures) ∙ c .before .y .given .1) in
+    combination-makes k (a .pre .1 .0) (a .pre .1 .1 .0) (a .args .target) (a .pre .1 .1 .1) _ e
 
 pub check-digits-spec : {M : Type 1} → statement M
 check-digits-spec =
@@ -56,9 +59,8 @@ check-digits-spec =
     check-joints-requires
     add-count
     array-share-prefix-joints
-    slice-aggregate-solver-of
-    solver-of-requires
-    solve-requires
+    slice-aggregate-find-combination
+    find-combination-requires
     enum-known-y
     enum-told
     returns

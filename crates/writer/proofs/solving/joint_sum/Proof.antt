@@ -11,35 +11,30 @@ use borrow.Author.Needs.{needs}
 use Rattle.writer.proofs.solving.joint_sum.Statement.{statement}
 use Rattle.writer.proofs.solving.joint_sum.Tie as tie
 
-column-table-requires : tie.Need-column-table-requires
-column-table-requires c κs = search needs
-
-slice-aggregate-sums : tie.Need-slice-aggregate-sums
-slice-aggregate-sums c = search needs
-
 sums-requires : tie.Need-sums-requires
-sums-requires c κs =
-    let p = c .before .before .before .before .pre in
-    (p .0, (c .before .column-table .ensures, p .1 .1))
+sums-requires c κs = search needs
 
 shl-result : tie.Need-shl-result
 shl-result c = search needs
 
--- what the shift gives, that rv + rh digits fit a word, and the joint sum
-exact : (c : tie.After-sums) → 1 * 2 ^ c .before .before .before .before .before .args .h .rv % 18446744073709551616 ≡ 2 ^ c .before .before .before .before .before .args .h .rv
-exact c = shift-exact (c .before .before .before .before .before .args .h .rv) (c .before .before .before .before .before .pre .0 .small .rv-most)
+-- what the function was given
+abbrev given : tie.After-sums → tie.Start
+given c = c .before .before .before .before
 
-word : (c : tie.After-sums) → 2 ^ (c .before .before .before .before .before .args .h .rv + c .before .before .before .before .before .args .h .rh) ≤ 2 ^ 64
-word c =
-    let p = c .before .before .before .before .before .pre .0 .small in
-    joint-word (c .before .before .before .before .before .args .h .rv) (c .before .before .before .before .before .args .h .rh) (p .rv-most) (p .rh-most)
+-- what the shift gives, that rv + rh digits fit a word, and the joint sum
+exact : (c : tie.After-sums) → 1 * 2 ^ given c .args .h .rv % 18446744073709551616 ≡ 2 ^ given c .args .h .rv
+exact c = shift-exact (given c .args .h .rv) (given c .pre .0 .small .rv-most)
+
+word : (c : tie.After-sums) → 2 ^ (given c .args .h .rv + given c .args .h .rh) ≤ 2 ^ 64
+word c = let p = given c .pre .0 .small in joint-word (given c .args .h .rv) (given c .args .h .rh) (p .rv-most) (p .rh-most)
 
 whole : (c : tie.After-sums)
-    → JointSum (codeWith (c .before .before .before .before .before .args .plan .now) (c .before .before .before .before .before .args .h)) (cellOf (c .before .before .before .before .before .args .h .n2) (c .before .before .before .before .before .args .sheet .now))
-    (c .sums .result .row + 2 ^ c .before .before .before .before .before .args .h .rv * c .sums .result .column)
+    → let a = given c .args in
+    JointSum (codeWith (a .plan .now) (a .h)) (cellOf (a .h .n2) (a .sheet .now)) (c .sums .result .row + 2 ^ a .h .rv * c .sums .result .column)
 whole c =
-    let a = c .before .before .before .before .before in
-    joint-value (codeWith (a .args .plan .now) (a .args .h)) (a .pre .1 .0) (cellOf (a .args .h .n2) (a .args .sheet .now)) _ _ (c .sums .ensures .row) (c .sums .ensures .column)
+    let a = given c in
+    joint-value (codeWith (a .args .plan .now) (a .args .h)) (a .pre .1 .0) (cellOf (a .args .h .n2) (a .args .sheet .now)) _ _ (c .sums .ensures .row)
+    (c .sums .ensures .column)
 
 mul-result : tie.Need-mul-result
 mul-result c = let j = whole (c .before) in let e = word (c .before) in rw (exact (c .before)) (omega (arith, j .below))
@@ -54,8 +49,6 @@ pub joint-sum-spec : {M : Type 1} → statement M
 joint-sum-spec =
     tie.close
     (tie.spec
-    column-table-requires
-    slice-aggregate-sums
     sums-requires
     shl-result
     mul-result
