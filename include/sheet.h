@@ -48,7 +48,7 @@ typedef char sheet_size_t_has_8_bytes[sizeof(size_t) == 8 ? 1 : -1];
 enum {
     SHEET_PLAN_HEADER_BYTES = 20,     /* the header of a plan: ten numbers of 16 bits */
     SHEET_PLAN_TEST_STACK = 65536,    /* bytes of stack that are enough for sheet_plan_test */
-    SHEET_WRITE_READ_STACK = 98304    /* bytes of stack that are enough for sheet_write, and for sheet_read */
+    SHEET_WRITE_READ_STACK = 65536    /* bytes of stack that are enough for sheet_write, and for sheet_read */
 };
 
 /* The numbers of an answer, and what its places p and q tell. */
