@@ -1,20 +1,20 @@
 -- `accept::search::first_row` meets its contract. The invariant: no pair so far fails, by what the first window leaves. Assumes nothing.
 use mathlib.Core.Path.{_≡_, refl, sym, _∙_}
-use Prim.Native.Nat.{_-_, _≤_}
+use Prim.Native.Nat.{_-_}
 use native.Mathlib.Omega.{arith}
 use borrow.Author.Needs.{needs}
 use borrow.Author.Tests.{not-true, not-false}
 use Rattle.accept.specs.declared.pairs.Pair.the-variants.{Clear}
 use Rattle.accept.specs.Pairs.{inRow}
 use Rattle.accept.proofs.Pairing.{row-next, row-fails, row-end}
-use Rattle.accept.proofs.Shift.{window-in, start-to}
+use Rattle.accept.proofs.Shift.{window-in}
 use Rattle.accept.proofs.Remains.{left, row-left}
 use Rattle.accept.proofs.search.first_row.Statement.{statement}
 use Rattle.accept.proofs.search.first_row.Tie as tie
 
 abbrev Inv-loop : tie.InvT-loop
 Inv-loop words step size count rest taken j₀ j =
-    (j ≤ count) × (inRow (left taken rest size step) 0 j₀ (count - j₀) Clear ≡ inRow (left taken rest size step) 0 j (count - j) Clear)
+    inRow (left taken rest size step) 0 j₀ (count - j₀) Clear ≡ inRow (left taken rest size step) 0 j (count - j) Clear
 
 abbrev μ-loop : tie.MeasureT-loop
 μ-loop words step size count rest taken j₀ j = count - j
@@ -29,9 +29,7 @@ start-of-requires : tie.Need-start-of-requires Inv-loop μ-loop
 start-of-requires c κs = omega arith
 
 loop-holds : tie.Need-loop-holds Inv-loop μ-loop
-loop-holds c =
-    let s = c .before .before .before .before .before .before .before in
-    (omega (arith, c .start-of .ensures, start-to (s .args .t) 0, s .pre .0 .some), refl)
+loop-holds c = refl
 
 mul-pair-free : tie.Need-mul-pair-free Inv-loop μ-loop
 mul-pair-free c =
@@ -53,7 +51,7 @@ returns c =
     let l = c .before .before .before .before .loop in
     row-left (s .args .t) (s .args .words .now) (s .pre .0) (c .before .before .before .before .before .before .before .before .prepare .ensures)
     (c .before .before .before .before .before .start-of .ensures)
-    (l .inv .1
+    (l .inv
     ∙ row-fails _ _ _ (l .j) _ (c .before .before .before .loop-test .taken) (sym (c .before .pair-free .ensures) ∙ not-true _ (c .if1 .taken)))
 
 add-j : tie.Need-add-j Inv-loop μ-loop
@@ -64,11 +62,8 @@ loop-less c = omega arith
 
 loop-again : tie.Need-loop-again Inv-loop μ-loop
 loop-again c =
-    let l = c .before .before .before .before .loop in (
-      omega arith,
-      l .inv .1
-          ∙ row-next _ _ _ (l .j) _ (c .before .before .before .loop-test .taken) (sym (c .before .pair-free .ensures) ∙ not-false _ (c .if1 .left)),
-    )
+    let l = c .before .before .before .before .loop in
+    l .inv ∙ row-next _ _ _ (l .j) _ (c .before .before .before .loop-test .taken) (sym (c .before .pair-free .ensures) ∙ not-false _ (c .if1 .left))
 
 same-length-2 : tie.Need-same-length-2 Inv-loop μ-loop
 same-length-2 c = search needs
@@ -78,7 +73,7 @@ returns-2 c =
     let s = c .before .before .before .before .before .before .before .before .before in
     let l = c .before .loop in
     row-left (s .args .t) (s .args .words .now) (s .pre .0) (c .before .before .before .before .before .prepare .ensures)
-    (c .before .before .start-of .ensures) (l .inv .1 ∙ row-end _ _ _ _ _ (c .loop-test .left))
+    (c .before .before .start-of .ensures) (l .inv ∙ row-end _ _ _ _ _ (c .loop-test .left))
 
 pub first-row-spec : {M : Type 1} → statement M
 first-row-spec =
