@@ -6,6 +6,8 @@
 
 pub mod answer;
 pub mod cases;
+#[cfg(feature = "linked")]
+pub mod compared;
 pub mod damage;
 #[cfg(feature = "linked")]
 pub mod ffi;

@@ -2,6 +2,7 @@
 
 use sheet_tests::answer::Answer;
 use sheet_tests::cases::{plan_cases, plan_s, plan_t};
+use sheet_tests::compared::plan_test;
 use sheet_tests::damage::damaged;
 use sheet_tests::ffi::Library;
 use sheet_tests::make::{
@@ -11,17 +12,6 @@ use sheet_tests::model;
 use sheet_tests::plan::{field, set_header_field, Plan, HEADER_LEN};
 use sheet_tests::rng::Rng;
 use sheet_tests::tally::Tally;
-
-/// The library's answer, which must be the model's.
-fn compared(library: &mut Library, bytes: &[u8]) -> u64 {
-    let expected = model::test_plan(bytes);
-    let answer = library.plan_test(bytes);
-    if answer != expected.pack() {
-        let told = Answer::unpack(answer);
-        panic!("library {told:?}, model {expected:?}, plan {:?}", Plan::parse(bytes));
-    }
-    answer
-}
 
 /// Cases 1, 8, 9, 10 and 11 of 01.
 #[test]
@@ -45,9 +35,9 @@ fn random_plans() {
             let more = if round % 10 == 9 { 30 } else { 8 };
             let plan = accepted(&mut rng, b1, b2, more);
             edges.count(&plan);
-            tally.count(compared(&mut library, &plan.encode()));
+            tally.count(plan_test(&mut library, &plan.encode()));
             for _ in 0..12 {
-                tally.count(compared(&mut library, &damaged(&plan, &mut rng)));
+                tally.count(plan_test(&mut library, &damaged(&plan, &mut rng)));
             }
         }
     }
@@ -109,11 +99,11 @@ fn random_tables() {
                 }
                 _ => [rng.bytes(HEADER_LEN), plan.encode()[HEADER_LEN..].to_vec()].concat(),
             };
-            tally.count(compared(&mut library, &bytes));
+            tally.count(plan_test(&mut library, &bytes));
             // The same with noise at the end, where the check list is.
             let end = bytes.len();
             bytes[end - 4 * (plan.rv + plan.rh)..].fill_with(|| rng.bits(8) as u8);
-            tally.count(compared(&mut library, &bytes));
+            tally.count(plan_test(&mut library, &bytes));
         }
     }
     tally.require("sheet_plan_test, random tables", &[(2..=2, 100), (7..=9, 100), (10..=10, 50)]);
@@ -132,7 +122,7 @@ fn shortest_inputs() {
         set_header_field(&mut own, field::LENGTH, len as u16);
         inputs.push(short(own));
         for bytes in inputs {
-            let answer = Answer::unpack(compared(&mut library, &bytes));
+            let answer = Answer::unpack(plan_test(&mut library, &bytes));
             assert_eq!(answer.number == 1, len < HEADER_LEN);
             assert_ne!(answer.number, 0);
         }
@@ -167,7 +157,7 @@ fn too_large_but_consistent() {
         (Plan { rv: 0, checks: vec![(0, 0); 2], ..plan_s() }, 4),
         (Plan { rh: 0, checks: vec![(0, 0); 2], ..plan_s() }, 4),
     ] {
-        let answer = compared(&mut library, &plan.encode());
+        let answer = plan_test(&mut library, &plan.encode());
         assert_eq!(Answer::unpack(answer).number, number, "{} x {}", plan.n1, plan.n2);
     }
 }
@@ -184,9 +174,9 @@ fn full_size() {
             reversed_3x3(512, 698, order, &mut rng),
             largest_4x4(order, &mut rng),
         ] {
-            assert_eq!(compared(&mut library, &plan.encode()), 0);
+            assert_eq!(plan_test(&mut library, &plan.encode()), 0);
             for _ in 0..10 {
-                compared(&mut library, &damaged(&plan, &mut rng));
+                plan_test(&mut library, &damaged(&plan, &mut rng));
             }
         }
     }
@@ -199,9 +189,9 @@ fn full_size() {
 fn late_refusals() {
     let (mut library, mut rng) = (Library::new(11), Rng::new(12));
     let plan = wide_3x3(CellOrder::Scattered, &mut rng);
-    assert_eq!(compared(&mut library, &plan.encode()), 0);
+    assert_eq!(plan_test(&mut library, &plan.encode()), 0);
     let mut expect = |damaged: Plan, expected: Answer| {
-        assert_eq!(Answer::unpack(compared(&mut library, &damaged.encode())), expected);
+        assert_eq!(Answer::unpack(plan_test(&mut library, &damaged.encode())), expected);
     };
 
     // The last V entry becomes that of an earlier row: the first window with that row is told.

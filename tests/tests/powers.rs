@@ -5,53 +5,29 @@
 use std::collections::BTreeSet;
 
 use sheet_tests::answer::Answer;
+use sheet_tests::compared::plan_test;
 use sheet_tests::ffi::Library;
 use sheet_tests::make::{
     burst_sizes, least_widths, most_checks, powers, powers_from, CellOrder, Polynomial,
 };
-use sheet_tests::model;
 use sheet_tests::plan::Plan;
 use sheet_tests::rng::Rng;
 use sheet_tests::tally::Tally;
 
-/// The library, beside the model.
-struct Harness {
-    library: Library,
-    rng: Rng,
+/// A plan of these tables on a small sheet.
+fn small_plan(rng: &mut Rng, b1: usize, b2: usize, v: Table, h: Table) -> Plan {
+    let mut shape = small_shape(b1, b2, rng);
+    shape.v = v(rng, shape.n1 * b2, shape.rv);
+    shape.h = h(rng, shape.n2 * b1, shape.rh);
+    let order = rng.pick(&[CellOrder::Sheet, CellOrder::Scattered]);
+    with_any_checks(shape, order, rng)
 }
 
-impl Harness {
-    fn new(seed: u64) -> Harness {
-        Harness { library: Library::new(seed), rng: Rng::new(!seed) }
-    }
-
-    /// The library's answer, which must be the model's.
-    fn compared(&mut self, plan: &Plan) -> u64 {
-        let bytes = plan.encode();
-        let expected = model::test_plan(&bytes);
-        let answer = self.library.plan_test(&bytes);
-        if answer != expected.pack() {
-            panic!("library {:?}, model {expected:?}, {plan:?}", Answer::unpack(answer));
-        }
-        answer
-    }
-
-    /// A plan of these tables on a small sheet.
-    fn plan(&mut self, b1: usize, b2: usize, v: Table, h: Table) -> Plan {
-        let rng = &mut self.rng;
-        let mut shape = small_shape(b1, b2, rng);
-        shape.v = v(rng, shape.n1 * b2, shape.rv);
-        shape.h = h(rng, shape.n2 * b1, shape.rh);
-        let order = rng.pick(&[CellOrder::Sheet, CellOrder::Scattered]);
-        with_any_checks(shape, order, rng)
-    }
-
-    /// The plan with one entry changed, at each place in turn.
-    fn change_each(&mut self, plan: &Plan, tally: &mut Tally) {
-        for at in 0..plan.v.len() + plan.h.len() {
-            let other = with_entry_changed(plan, at, &mut self.rng);
-            tally.count(self.compared(&other));
-        }
+/// The plan with one entry changed, at each place in turn.
+fn change_each(library: &mut Library, rng: &mut Rng, plan: &Plan, tally: &mut Tally) {
+    for at in 0..plan.v.len() + plan.h.len() {
+        let other = with_entry_changed(plan, at, rng);
+        tally.count(plan_test(library, &other.encode()));
     }
 }
 
@@ -137,16 +113,16 @@ fn require(tally: &Tally, what: &str, least: [u64; 4]) {
 /// Thousands of plans of powers, and each of them with one entry changed, at every place.
 #[test]
 fn powers_and_one_entry_changed() {
-    let mut harness = Harness::new(21);
+    let (mut library, mut rng) = (Library::new(21), Rng::new(!21));
     let (mut whole, mut changed) = (Tally::default(), Tally::default());
     let (mut v_degrees, mut h_degrees) = (BTreeSet::new(), BTreeSet::new());
     for (b1, b2) in burst_sizes() {
         for _ in 0..250 {
-            let plan = harness.plan(b1, b2, of_powers, of_powers);
+            let plan = small_plan(&mut rng, b1, b2, of_powers, of_powers);
             v_degrees.insert(plan.rv);
             h_degrees.insert(plan.rh);
-            whole.count(harness.compared(&plan));
-            harness.change_each(&plan, &mut changed);
+            whole.count(plan_test(&mut library, &plan.encode()));
+            change_each(&mut library, &mut rng, &plan, &mut changed);
         }
     }
     assert!(v_degrees.into_iter().eq(1..=32) && h_degrees.into_iter().eq(1..=32));
@@ -174,7 +150,7 @@ fn with_entry_changed(plan: &Plan, at: usize, rng: &mut Rng) -> Plan {
 /// Tables of other kinds, one or both.
 #[test]
 fn near_powers() {
-    let mut harness = Harness::new(22);
+    let (mut library, mut rng) = (Library::new(22), Rng::new(!22));
     let some = [20, 200, 200, 100];
     let kinds: [(&str, Table, Table, [u64; 4]); 11] = [
         ("V of powers, H random", of_powers, random, some),
@@ -194,8 +170,8 @@ fn near_powers() {
         let mut tally = Tally::default();
         for (b1, b2) in burst_sizes() {
             for _ in 0..100 {
-                let plan = harness.plan(b1, b2, v, h);
-                tally.count(harness.compared(&plan));
+                let plan = small_plan(&mut rng, b1, b2, v, h);
+                tally.count(plan_test(&mut library, &plan.encode()));
             }
         }
         require(&tally, what, least);
@@ -206,7 +182,7 @@ fn near_powers() {
 /// polynomial makes the same table. One entry changed is tried at every place too.
 #[test]
 fn nothing_reduced() {
-    let mut harness = Harness::new(23);
+    let (mut library, mut rng) = (Library::new(23), Rng::new(!23));
     let short_v: fn(&Plan) -> bool = |plan| plan.v.len() <= plan.rv;
     let short_h: fn(&Plan) -> bool = |plan| plan.h.len() <= plan.rh;
     for (what, short, least) in
@@ -216,11 +192,11 @@ fn nothing_reduced() {
         for (b1, b2) in burst_sizes() {
             let mut found = 0;
             while found < 50 {
-                let plan = harness.plan(b1, b2, of_powers, of_powers);
+                let plan = small_plan(&mut rng, b1, b2, of_powers, of_powers);
                 if short(&plan) {
                     found += 1;
-                    whole.count(harness.compared(&plan));
-                    harness.change_each(&plan, &mut changed);
+                    whole.count(plan_test(&mut library, &plan.encode()));
+                    change_each(&mut library, &mut rng, &plan, &mut changed);
                 }
             }
         }
@@ -233,17 +209,17 @@ fn nothing_reduced() {
 /// a pair fails, and from some width on none does.
 #[test]
 fn full_size() {
-    let mut harness = Harness::new(24);
+    let (mut library, mut rng) = (Library::new(24), Rng::new(!24));
     let mut tally = Tally::default();
     let mut farthest = [0; 15];
     let mut accepted = None;
     for round in 0..30 {
         let (rv, rh) = if round % 2 == 0 { (18 + round % 15, 32) } else { (32, 9 + round % 13) };
-        let v = of_powers(&mut harness.rng, 3 * 512, rv);
-        let h = of_powers(&mut harness.rng, 3 * 698, rh);
+        let v = of_powers(&mut rng, 3 * 512, rv);
+        let h = of_powers(&mut rng, 3 * 698, rh);
         let plan = Plan { n1: 512, n2: 698, b1: 3, b2: 3, rv, rh, v, h, checks: vec![] };
-        let plan = with_any_checks(plan, CellOrder::Sheet, &mut harness.rng);
-        let answer = harness.compared(&plan);
+        let plan = with_any_checks(plan, CellOrder::Sheet, &mut rng);
+        let answer = plan_test(&mut library, &plan.encode());
         tally.count(answer);
         let Answer { number, q, .. } = Answer::unpack(answer);
         farthest[number as usize] = q.max(farthest[number as usize]);
@@ -253,8 +229,8 @@ fn full_size() {
     }
     let plan = accepted.expect("some plan is accepted");
     for at in [0, plan.v.len() - 1, plan.v.len(), plan.v.len() + plan.h.len() - 1] {
-        let other = with_entry_changed(&plan, at, &mut harness.rng);
-        tally.count(harness.compared(&other));
+        let other = with_entry_changed(&plan, at, &mut rng);
+        tally.count(plan_test(&mut library, &other.encode()));
     }
     require(&tally, "full size", [5, 5, 5, 0]);
     println!("farthest apart: windows {}, strips {}", farthest[8], farthest[9]);

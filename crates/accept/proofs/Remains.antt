@@ -32,7 +32,8 @@ use Rattle.plan.specs.declared.table.Table.the-variants.{Rows, Columns}
 use Rattle.accept.specs.declared.pairs.Pair.{Pair}
 use Rattle.accept.specs.declared.pairs.Pair.the-variants.{Clear}
 use Rattle.accept.specs.Pairs.{inRow}
-use Rattle.accept.specs.Windows.{wordAt, reduction, restRun, pairList, pairFree, windowsFree, startOf, Windows, Prepared}
+use Rattle.plan.specs.Table.{wordAt}
+use Rattle.accept.specs.Windows.{reduction, restRun, pairList, pairFree, windowsFree, startOf, Windows, Prepared}
 use Rattle.accept.proofs.Pairing.{row-equal}
 use Rattle.accept.proofs.Shift.{window-in}
 

@@ -24,7 +24,8 @@ use Rattle.plan.specs.declared.table.Table.{Table}
 use Rattle.plan.specs.declared.table.Table.the-variants.{Rows, Columns}
 use Rattle.accept.specs.declared.pairs.Pair.the-variants.{Clear}
 use Rattle.accept.specs.Pairs.{inRow, firstFailing}
-use Rattle.accept.specs.Windows.{wordAt, reduction, restRun, pairList, pairFree, windowsFree, startOf, Inside, Windows}
+use Rattle.plan.specs.Table.{wordAt}
+use Rattle.accept.specs.Windows.{reduction, restRun, pairList, pairFree, windowsFree, startOf, Inside, Windows}
 use Rattle.accept.proofs.Pairing.{first-row}
 
 module _ (p : ℕ) (odd : p % 2 ≡ 1) (f : ℕ → ℕ) (n : ℕ) (steps : (k : ℕ) → suc k < n → f (suc k) ≡ timesZ p (f k)) where

@@ -23,9 +23,9 @@ use Rattle.plan.specs.declared.table.Table.{Table}
 use Rattle.plan.specs.declared.table.Table.the-variants.{Rows, Columns}
 use Rattle.plan.specs.Header.{Framed}
 use Rattle.plan.specs.Bytes.{codeWith}
-use Rattle.plan.specs.Table.{entriesOf, entryOf, EntriesIn}
+use Rattle.plan.specs.Table.{entriesOf, entryOf, EntriesIn, wordAt}
 use Rattle.accept.specs.Pairs.{firstFailing}
-use Rattle.accept.specs.Windows.{wordAt, reduction, restRun, pairList, pairFree, windowsFree, startOf, Windows}
+use Rattle.accept.specs.Windows.{reduction, restRun, pairList, pairFree, windowsFree, startOf, Windows}
 use Rattle.accept.proofs.Pairing.{pairs-equal}
 use Rattle.accept.proofs.Shift.{window-in}
 use Rattle.accept.proofs.RowPairs.{row-pair}

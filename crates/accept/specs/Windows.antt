@@ -1,7 +1,6 @@
 -- Pairs of windows on a table, as the code tests them. A window is a run of entries of a table: of V, those of b1 rows (01: a window),
 -- of H, those of b2 columns (01: a strip).
 --
---   wordAt words k         word k of an unpacked table
 --   reduction f a size k   entry k, with the entry of the window at place a that has the same remainder taken off
 --   pairList t f size a b  the numbers of which two windows, at the places a ≤ b, ask that they are independent. Of V: the entries of both,
 --                          each position once. Of H: those of the second that are not in the first, reduced by the first
@@ -17,14 +16,12 @@ use mathlib.Core.Path.{_≡_}
 use mathlib.Core.Bool.{Bool, _&&_}
 use mathlib.Core.List.{List, [], _++_}
 use lib.Dec.{eqb}
-use lib.ListN.{length, getD}
+use lib.ListN.{length}
 use Rattle.gf2.specs.Xor.{_⊕_}
 use Rattle.gf2.specs.Vectors.{freeFrom, run, part}
 use Rattle.plan.specs.declared.table.Table.{Table}
 use Rattle.plan.specs.declared.table.Table.the-variants.{Rows, Columns}
-
-abbrev pub wordAt : List ℕ → ℕ → ℕ
-wordAt words k = getD words k 0
+use Rattle.plan.specs.Table.{wordAt}
 
 unfoldable pub reduction : (ℕ → ℕ) → ℕ → ℕ → ℕ → ℕ
 reduction f a size k = f k ⊕ f (a + (k - a) % size)

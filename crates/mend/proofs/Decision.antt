@@ -30,10 +30,10 @@ use Rattle.boxcode.proofs.Condition.{separated}
 use Rattle.boxcode.proofs.Trial.{BurstWith, has-burst, burst-is}
 use Rattle.boxcode.proofs.Laid.{none-found, strip-found, found-strip}
 use Rattle.mend.specs.Window.{windowSum, entryAt, firstFit}
-use Rattle.mend.specs.Strip.{wordAt, laidCell, laidRow, laidLine, laidSum, fitsOn, laidDigit, boxPattern, onStrips}
+use Rattle.mend.specs.Strip.{laidCell, laidRow, laidLine, laidSum, fitsOn, laidDigit, boxPattern, onStrips}
 use Rattle.plan.specs.declared.header.Header.{Header}
 use Rattle.plan.specs.Bytes.{codeWith, columnEntryAt}
-use Rattle.plan.specs.Table.{Unpacked}
+use Rattle.plan.specs.Table.{Unpacked, wordAt}
 use Rattle.mend.specs.declared.found.Found.the-variants.{Burst, Nothing}
 use Rattle.mend.specs.declared.fit.Fit.{Fit}
 use Rattle.mend.specs.declared.fit.Fit.the-variants.{Pattern, Nothing as Missing}

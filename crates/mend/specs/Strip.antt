@@ -1,7 +1,6 @@
 -- A pattern laid on a strip of b2 consecutive columns.
 --
 --   BurstSize b1 b2   sizes of a burst: from 1 to 4
---   wordAt words k    word k of an unpacked table
 --   laidSum           the H sum of pattern x of the window at row i, laid on the strip at column a, by a table of H entries
 --   laidCell, laidRow, laidLine   what a cell adds to it, and what a row adds
 --   fitsOn            the H sum on a strip is the one that is asked for
@@ -10,9 +9,7 @@
 --   onStrips          the burst on the first strip on which the pattern has the H sum, or Nothing
 use Prim.Native.Nat.{ℕ, _+_, _-_, _*_, _/_, _%_, _≤_}
 use mathlib.Core.Bool.{Bool, cond}
-use mathlib.Core.List.{List}
 use lib.Dec.{eqb, ltb}
-use lib.ListN.{getD}
 use Rattle.gf2.specs.Xor.{pick}
 use Rattle.gf2.specs.Sum.{xorSum}
 use Rattle.finite.specs.Search.{bit, least, numberOf}
@@ -25,9 +22,6 @@ pub record BurstSize (b1 b2 : ℕ) : Type 0 where
   pub b1-most : b1 ≤ 4
   pub b2-pos : 1 ≤ b2
   pub b2-most : b2 ≤ 4
-
-abbrev pub wordAt : List ℕ → ℕ → ℕ
-wordAt words k = getD words k 0
 
 -- of column a + d. u is the row's remainder modulo b1, and its digits begin at first
 unfoldable pub laidCell : ℕ → ℕ → (ℕ → ℕ) → ℕ → ℕ → ℕ → ℕ → ℕ → ℕ

@@ -3,9 +3,8 @@
 ghost use mathlib.Core.Path.{_≡_};
 ghost use Prim.Native.Nat.{_+_, _-_};
 ghost use Rattle.plan.specs.Bytes.{codeWith};
-ghost use Rattle.plan.specs.Table.{Unpacked};
+ghost use Rattle.plan.specs.Table.{Unpacked, wordAt};
 ghost use Rattle.plan.specs.Accepted.{AcceptedWith};
-ghost use Rattle.mend.specs.Strip.{wordAt};
 ghost use Rattle.mend.specs.Search.{searchFrom};
 ghost use Rattle.mend.specs.Found.{FoundFor};
 use crate::fit::Fit;

@@ -7,7 +7,8 @@ use native.Mathlib.Omega.{arith}
 use lib.ListN.{length}
 use borrow.Author.Needs.{needs}
 use Rattle.gf2.specs.Xor.{_⊕_}
-use Rattle.accept.specs.Windows.{wordAt, reduction}
+use Rattle.plan.specs.Table.{wordAt}
+use Rattle.accept.specs.Windows.{reduction}
 use Rattle.accept.proofs.Remains.{Filled, filled-start, filled-next, prepared-columns, cycle-next}
 use Rattle.accept.proofs.rest.differ_rest.Statement.{statement}
 use Rattle.accept.proofs.rest.differ_rest.Tie as tie

@@ -8,7 +8,7 @@ use lib.Seq.{length-take-le}
 use borrow.Author.Needs.{needs}
 use Rattle.gf2.specs.Swept.{swept}
 use Rattle.gf2.proofs.Runs.{part-length}
-use Rattle.accept.specs.Windows.{wordAt}
+use Rattle.plan.specs.Table.{wordAt}
 use Rattle.accept.proofs.Remains.{Filled, filled-start, filled-next, prepared-rows, kept-most}
 use Rattle.accept.proofs.rest.sweep_rest.Statement.{statement}
 use Rattle.accept.proofs.rest.sweep_rest.Tie as tie

@@ -9,7 +9,8 @@ use borrow.Author.Needs.{needs}
 use borrow.Author.Tests.{not-true, not-false}
 use Rattle.accept.specs.declared.pairs.Pair.the-variants.{Clear}
 use Rattle.accept.specs.Pairs.{inRow, fromRow, firstFailing}
-use Rattle.accept.specs.Windows.{wordAt, windowsFree, startOf}
+use Rattle.plan.specs.Table.{wordAt}
+use Rattle.accept.specs.Windows.{windowsFree, startOf}
 use Rattle.accept.proofs.Pairing.{row-next, row-fails, row-end, rows-next, rows-end}
 use Rattle.accept.proofs.Shift.{window-in, start-from, start-to, windows-inside}
 use Rattle.accept.proofs.search.search.Statement.{statement}

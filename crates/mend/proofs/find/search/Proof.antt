@@ -3,7 +3,7 @@ use mathlib.Core.Path.{_≡_, sym, _∙_}
 use Prim.Native.Nat.{_-_, _≤_}
 use native.Mathlib.Omega.{arith}
 use borrow.Author.Needs.{needs}
-use Rattle.mend.specs.Strip.{wordAt}
+use Rattle.plan.specs.Table.{wordAt}
 use Rattle.mend.specs.Search.{searchFrom}
 use Rattle.mend.proofs.Windows.{search-starts, search-misses, search-finds, search-ends}
 use Rattle.mend.proofs.find.search.Statement.{statement}

@@ -7,7 +7,8 @@ use native.Mathlib.Omega.{arith}
 use borrow.Author.Count.{below-none, below-more}
 use borrow.Author.Tests.{eq-eqb, ne-eqb}
 use Rattle.finite.proofs.Search.{search-finds, search-ends}
-use Rattle.mend.specs.Strip.{wordAt, fitsOn}
+use Rattle.plan.specs.Table.{wordAt}
+use Rattle.mend.specs.Strip.{fitsOn}
 use Rattle.mend.proofs.Turns.{small-burst}
 use Rattle.mend.proofs.strip.first_strip.Statement.{statement}
 use Rattle.mend.proofs.strip.first_strip.Tie as tie

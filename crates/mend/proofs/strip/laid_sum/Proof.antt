@@ -5,7 +5,8 @@ use Prim.Native.Nat.{_+_, _-_, _*_, _%_, _≤_, _<_}
 use native.Mathlib.Nat.{mod-lt, mul-le-mul, zero-mul}
 use native.Mathlib.Omega.{arith}
 use Rattle.gf2.specs.Sum.{xorSum}
-use Rattle.mend.specs.Strip.{wordAt, laidLine, laidSum}
+use Rattle.plan.specs.Table.{wordAt}
+use Rattle.mend.specs.Strip.{laidLine, laidSum}
 use Rattle.mend.proofs.Turns.{times-next, mod-start, mod-next, sum-start, sum-more}
 use Rattle.mend.proofs.strip.laid_sum.Statement.{statement}
 use Rattle.mend.proofs.strip.laid_sum.Tie as tie

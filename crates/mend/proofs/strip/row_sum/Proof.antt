@@ -7,7 +7,8 @@ use native.Mathlib.Omega.{arith}
 use lib.Arith.{digits-lt}
 use lib.ListN.{length}
 use Rattle.gf2.specs.Sum.{xorSum}
-use Rattle.mend.specs.Strip.{wordAt, laidCell, laidRow}
+use Rattle.plan.specs.Table.{wordAt}
+use Rattle.mend.specs.Strip.{laidCell, laidRow}
 use Rattle.mend.proofs.Turns.{times-next, mod-start, mod-next, sum-start, sum-more}
 use Rattle.mend.proofs.strip.row_sum.Statement.{statement}
 use Rattle.mend.proofs.strip.row_sum.Tie as tie
