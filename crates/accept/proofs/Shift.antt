@@ -25,7 +25,7 @@ use Rattle.plan.specs.declared.table.Table.the-variants.{Rows, Columns}
 use Rattle.accept.specs.declared.pairs.Pair.the-variants.{Clear}
 use Rattle.accept.specs.Pairs.{inRow, firstFailing}
 use Rattle.plan.specs.Table.{wordAt}
-use Rattle.accept.specs.Windows.{reduction, restRun, pairList, pairFree, windowsFree, startOf, Inside, Windows}
+use Rattle.accept.specs.Windows.{reduction, restRun, pairList, pairFree, windowsFree, startOf, WindowIn, Windows}
 use Rattle.accept.proofs.Pairing.{first-row}
 
 module _ (p : ℕ) (odd : p % 2 ≡ 1) (f : ℕ → ℕ) (n : ℕ) (steps : (k : ℕ) → suc k < n → f (suc k) ≡ timesZ p (f k)) where
@@ -97,7 +97,7 @@ start-to Columns i = omega arith
 pub window-in : {n step size count : ℕ} → Windows n step size count → (j : ℕ) → j < count → j * step + size ≤ n
 window-in {n} {step} {size} {count} w j l = omega (arith, w .inside, mul-le-mul-right step l, suc-mul j step)
 
-pub windows-inside : {n step size count : ℕ} → Windows n step size count → (j : ℕ) → j < count → Inside n (j * step) size
+pub windows-inside : {n step size count : ℕ} → Windows n step size count → (j : ℕ) → j < count → WindowIn n (j * step) size
 windows-inside w j l = record { size-pos = w .size-pos; size-most = w .size-most; inside = window-in w j l; few = w .few }
 
 pub powers-row : (t : Table) (words : List ℕ) (step size count : ℕ) → Windows (length words) step size count → arePowers words ≡ true

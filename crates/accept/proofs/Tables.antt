@@ -15,7 +15,7 @@ use lib.ListN.{length, take}
 use lib.Seq.{length-take-le, getD-take}
 use Rattle.gf2.specs.Xor.{_⊕_}
 use Rattle.gf2.specs.Vectors.{freeFrom}
-use Rattle.gf2.specs.Powers.{Small}
+use Rattle.gf2.specs.Powers.{Digits32}
 use Rattle.gf2.proofs.Runs.{run-equal}
 use Rattle.boxcode.specs.Condition.{rowPairFree, columnPairFree}
 use Rattle.plan.specs.declared.header.Header.{Header}
@@ -38,7 +38,7 @@ module _ (s : List ℕ) (h : Header) (t : Table) (words : List ℕ) (E : Entries
   taken-at : (k : ℕ) → k < entriesOf h t → wordAt (take (entriesOf h t) words) k ≡ entryOf s h t k
   taken-at k l = getD-take (entriesOf h t) words k 0 l ∙ E .entry k l
 
-  pub taken-small : Small (take (entriesOf h t) words)
+  pub taken-small : Digits32 (take (entriesOf h t) words)
   taken-small k l =
       let u : k < entriesOf h t = omega (arith, taken-length) in
       rw (getD-take (entriesOf h t) words k 0 u) (E .below k u)

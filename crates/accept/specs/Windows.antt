@@ -7,7 +7,7 @@
 --   pairFree t f size a b  they are
 --   windowsFree t f step size i j   the same of windows number i and j, where each begins step entries after the one before
 --   startOf t i            the first window that is paired with window i: itself, or of H the next
---   Inside n a size        a window at place a lies in a table of n words
+--   WindowIn n a size      a window at place a lies in a table of n words
 --   Windows n step size count       count windows do
 --   Prepared t words size a taken rest  after the window at a, these tell of each later window whether the pair is independent: how many
 --                          of the window's own words count, and what it leaves of the words after it
@@ -44,7 +44,7 @@ abbrev pub startOf : Table → ℕ → ℕ
 startOf Rows i = i
 startOf Columns i = i + 1
 
-pub record Inside (n a size : ℕ) : Type 0 where
+pub record WindowIn (n a size : ℕ) : Type 0 where
   pub size-pos : 1 ≤ size
   pub size-most : size ≤ 16
   pub inside : a + size ≤ n

@@ -7,7 +7,7 @@ ghost use lib.Dec.{eqb};
 ghost use lib.ListN.{length};
 ghost use Rattle.gf2.specs.Vectors.{freeFrom, part};
 ghost use Rattle.plan.specs.declared.table.Table.the-variants.{Rows, Columns};
-ghost use Rattle.accept.specs.Windows.{Inside, Prepared};
+ghost use Rattle.accept.specs.Windows.{WindowIn, Prepared};
 use gf2::empty_basis;
 use gf2::keep;
 use gf2::sweep;
@@ -17,7 +17,7 @@ use plan::table::Table;
 
 // Of the row table: how many words of the window its basis takes in, and the words after it as that basis leaves them.
 fn sweep_rest(words: &[u64], first: usize, size: usize, rest: &mut [u64]) -> usize
-    requires { ⌜ Inside (length (now words)) first size × (length (now rest) ≡ length (now words)) ⌝ }
+    requires { ⌜ WindowIn (length (now words)) first size × (length (now rest) ≡ length (now words)) ⌝ }
     ensures { λ r. ⌜ Prepared Rows (now (words .entry)) size first r (now (rest .exit)) ⌝ }
 {
     let base = keep(empty_basis(), &words[first..first + size]);
@@ -33,7 +33,7 @@ fn sweep_rest(words: &[u64], first: usize, size: usize, rest: &mut [u64]) -> usi
 
 // Of the column table: the words after the strip, each with the strip's word of the same remainder taken off. The strip itself asks nothing.
 fn differ_rest(words: &[u64], first: usize, size: usize, rest: &mut [u64]) -> usize
-    requires { ⌜ Inside (length (now words)) first size × (length (now rest) ≡ length (now words)) ⌝ }
+    requires { ⌜ WindowIn (length (now words)) first size × (length (now rest) ≡ length (now words)) ⌝ }
     ensures { λ r. ⌜ Prepared Columns (now (words .entry)) size first r (now (rest .exit)) ⌝ }
 {
     let mut at = 0;
@@ -48,7 +48,7 @@ fn differ_rest(words: &[u64], first: usize, size: usize, rest: &mut [u64]) -> us
 
 // The window at a place of a table, made ready to be paired with each later one: how many of its own words count.
 pub fn prepare(t: Table, words: &[u64], first: usize, size: usize, rest: &mut [u64]) -> usize
-    requires { ⌜ Inside (length (now words)) first size × (length (now rest) ≡ length (now words)) ⌝ }
+    requires { ⌜ WindowIn (length (now words)) first size × (length (now rest) ≡ length (now words)) ⌝ }
     ensures { λ r. ⌜ Prepared t (now (words .entry)) size first r (now (rest .exit)) ⌝ }
 {
     match t {

@@ -2,7 +2,7 @@
 ghost use mathlib.Core.Path.{_≡_};
 ghost use Prim.Native.Nat.{_-_, _≤_};
 ghost use lib.ListN.{length};
-ghost use Rattle.gf2.specs.Powers.{Small};
+ghost use Rattle.gf2.specs.Powers.{Digits32};
 ghost use Rattle.accept.specs.declared.pairs.Pair.the-variants.{Clear};
 ghost use Rattle.accept.specs.Pairs.{inRow, firstFailing};
 ghost use Rattle.plan.specs.Table.{wordAt};
@@ -75,7 +75,7 @@ pub fn first_failing(
     rest: &mut [u64],
 ) -> Pair
     requires { ⌜ Windows (length (now words)) step size count × (length (now rest) ≡ length (now words)) ⌝ }
-    requires { ⌜ Small (now words) ⌝ }
+    requires { ⌜ Digits32 (now words) ⌝ }
     ensures { λ r. ⌜ r ≡ firstFailing (windowsFree t (wordAt (now (words .entry))) step size) (startOf t) count ⌝ }
 {
     if are_powers(words) {

@@ -5,7 +5,7 @@
 --   firstBreak p ws     the first place k after which word k + 1 is not z times word k, or the place of the last word
 --   modulusOf ws        a polynomial by which ws may be powers: what is taken off after the first break in doubling; 1 where there is none
 --   arePowers ws        that polynomial has constant term 1, and each word is z times the one before
---   Small ws            the words have at most 32 digits
+--   Digits32 ws         the words have at most 32 digits
 use Prim.Native.Nat.{ℕ, _+_, _-_, _*_, _%_, _<_, min}
 use mathlib.Core.Bool.{Bool, _&&_, not, cond}
 use mathlib.Core.List.{List}
@@ -32,5 +32,5 @@ modulusOf ws =
 unfoldable pub arePowers : List ℕ → Bool
 arePowers ws = let p = modulusOf ws in eqb (p % 2) 1 && leb (length ws) (firstBreak p ws + 1)
 
-abbrev pub Small : List ℕ → Type 0
-Small ws = (k : ℕ) → k < length ws → getD ws k 0 < 4294967296
+abbrev pub Digits32 : List ℕ → Type 0
+Digits32 ws = (k : ℕ) → k < length ws → getD ws k 0 < 4294967296
