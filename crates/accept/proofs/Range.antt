@@ -22,7 +22,7 @@ use Rattle.plan.specs.declared.header.Header.{Header}
 use Rattle.plan.specs.Verdict.{accepted, refusal, verdictIf, _orElse_}
 use Rattle.plan.specs.Header.{headerLength, headerOf}
 use Rattle.plan.specs.Bytes.{codeOf}
-use Rattle.plan.specs.Form.{badBurst, badSheet, badWidths, badOffsets, headerVerdict, fieldsVerdict, verdictAt}
+use Rattle.plan.specs.Form.{badBurst, badSheet, badWidths, badOffsets, sizesVerdict, offsetsVerdict, fieldsVerdict, headerVerdict, verdictAt}
 use Rattle.plan.specs.Form.{firstLarge, entriesVerdict, badPair, listVerdict, formVerdict}
 use Rattle.plan.proofs.Framing.{framed}
 use Rattle.plan.proofs.Forming.{formed}
@@ -85,17 +85,15 @@ pair-fits number n ok start l u s = go (fromRow ok start n 0 n) (rows-below ok s
     go (Failing i j) b = record { number-fits = l; p-fits = omega (arith, b .0); q-fits = omega (arith, b .1) }
     go Clear b = accepted-fits
 
-refusal-fits : (n : ℕ) → n < 32 → SmallVerdict (refusal n 0 0)
+pub refusal-fits : (n : ℕ) → n < 32 → SmallVerdict (refusal n 0 0)
 refusal-fits n l = record { number-fits = l; p-fits = omega arith; q-fits = omega arith }
 
-fields-fits : (size : ℕ) (h : Header) → SmallVerdict (fieldsVerdict size h)
-unfolding fieldsVerdict
-fields-fits size h =
-    else-fits (verdictIf (badBurst h) (refusal 2 0 0)) (third orElse fourth orElse fifth)
-    (if-fits (badBurst h) (refusal 2 0 0) (λ _. refusal-fits 2 (omega arith)))
-    (λ _. else-fits third (fourth orElse fifth) (if-fits (badSheet h) (refusal 3 0 0) (λ _. refusal-fits 3 (omega arith)))
-    (λ _. else-fits fourth fifth (if-fits (badWidths h) (refusal 4 0 0) (λ _. refusal-fits 4 (omega arith)))
-    (λ _. if-fits (badOffsets size h) (refusal 5 0 0) (λ _. refusal-fits 5 (omega arith)))))
+pub sizes-fits : (h : Header) → SmallVerdict (sizesVerdict h)
+unfolding sizesVerdict
+sizes-fits h =
+    else-fits (verdictIf (badBurst h) (refusal 2 0 0)) (third orElse fourth) (if-fits (badBurst h) (refusal 2 0 0) (λ _. refusal-fits 2 (omega arith)))
+    (λ _. else-fits third fourth (if-fits (badSheet h) (refusal 3 0 0) (λ _. refusal-fits 3 (omega arith)))
+    (λ _. if-fits (badWidths h) (refusal 4 0 0) (λ _. refusal-fits 4 (omega arith))))
   where
     third : Verdict
     third = verdictIf (badSheet h) (refusal 3 0 0)
@@ -103,8 +101,11 @@ fields-fits size h =
     fourth : Verdict
     fourth = verdictIf (badWidths h) (refusal 4 0 0)
 
-    fifth : Verdict
-    fifth = verdictIf (badOffsets size h) (refusal 5 0 0)
+pub fields-fits : (size : ℕ) (h : Header) → SmallVerdict (fieldsVerdict size h)
+unfolding fieldsVerdict offsetsVerdict
+fields-fits size h =
+    else-fits (sizesVerdict h) (offsetsVerdict size h) (sizes-fits h)
+    (λ _. if-fits (badOffsets size h) (refusal 5 0 0) (λ _. refusal-fits 5 (omega arith)))
 
 header-fits : (s : List ℕ) → SmallVerdict (headerVerdict s)
 unfolding headerVerdict

@@ -11,7 +11,15 @@
 --   Windows n step size count       count windows do
 --   Prepared t words size a taken rest  after the window at a, these tell of each later window whether the pair is independent: how many
 --                          of the window's own words count, and what it leaves of the words after it
-use Prim.Native.Nat.{ℕ, _+_, _-_, _*_, _%_, _≤_, max}
+--   stepOf h t             how many entries a line of a table has: b2 a row of V, b1 a column of H
+--   windowSize h t         how many a window has
+--   windowsOf h t          how many windows there are
+--   Entries32 n words      the first n words fit 32 bits
+--   tableOf t v w          of the tables v and w the one meant
+--   conditionNumber t      the number of the check of a table's pairs
+--   tableVerdict h t f     that check, of the entries f: the first pair of windows that are not independent
+--   conditionOf c t        the same as document 01 words it of a code: check 8 or check 9
+use Prim.Native.Nat.{ℕ, _+_, _-_, _*_, _%_, _≤_, _<_, max}
 use mathlib.Core.Path.{_≡_}
 use mathlib.Core.Bool.{Bool, _&&_}
 use mathlib.Core.List.{List, [], _++_}
@@ -19,9 +27,14 @@ use lib.Dec.{eqb}
 use lib.ListN.{length}
 use Rattle.gf2.specs.Xor.{_⊕_}
 use Rattle.gf2.specs.Vectors.{freeFrom, run, part}
+use Rattle.boxcode.specs.Code.{Code}
+use Rattle.plan.specs.declared.header.Header.{Header}
+use Rattle.plan.specs.declared.verdict.Verdict.{Verdict}
 use Rattle.plan.specs.declared.table.Table.{Table}
 use Rattle.plan.specs.declared.table.Table.the-variants.{Rows, Columns}
 use Rattle.plan.specs.Table.{wordAt}
+use Rattle.accept.specs.Pairs.{firstFailing, pairVerdict}
+use Rattle.accept.specs.Verdict.{rowsVerdict, columnsVerdict}
 
 unfoldable pub reduction : (ℕ → ℕ) → ℕ → ℕ → ℕ → ℕ
 reduction f a size k = f k ⊕ f (a + (k - a) % size)
@@ -62,3 +75,34 @@ pub record Prepared (t : Table) (words : List ℕ) (size a taken : ℕ) (rest : 
   pub long : length rest ≡ length words
   pub free : (b : ℕ) → a ≤ b → b + size ≤ length words
       → pairFree t (wordAt words) size a b ≡ (eqb taken size && freeFrom [] (part (max (a + size) b) (b + size) rest))
+
+abbrev pub stepOf : Header → Table → ℕ
+stepOf h Rows = h .b2
+stepOf h Columns = h .b1
+
+abbrev pub windowSize : Header → Table → ℕ
+windowSize h Rows = h .b1 * h .b2
+windowSize h Columns = h .b2 * h .b1
+
+abbrev pub windowsOf : Header → Table → ℕ
+windowsOf h Rows = h .n1 - h .b1 + 1
+windowsOf h Columns = h .n2 - h .b2 + 1
+
+abbrev pub Entries32 : ℕ → List ℕ → Type 0
+Entries32 n words = (k : ℕ) → k < n → wordAt words k < 4294967296
+
+abbrev pub tableOf : Table → (ℕ → ℕ) → (ℕ → ℕ) → ℕ → ℕ
+tableOf Rows v w = v
+tableOf Columns v w = w
+
+abbrev pub conditionNumber : Table → ℕ
+conditionNumber Rows = 8
+conditionNumber Columns = 9
+
+unfoldable pub tableVerdict : Header → Table → (ℕ → ℕ) → Verdict
+tableVerdict h t f =
+    pairVerdict (conditionNumber t) (firstFailing (windowsFree t f (stepOf h t) (windowSize h t)) (startOf t) (windowsOf h t))
+
+abbrev pub conditionOf : Code → Table → Verdict
+conditionOf c Rows = rowsVerdict c
+conditionOf c Columns = columnsVerdict c

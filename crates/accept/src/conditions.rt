@@ -1,10 +1,12 @@
-// Checks 8 and 9: the conditions on rows and on columns.
+// Checks 8 and 9: the conditions on rows and on columns, each a search over one table.
 ghost use mathlib.Core.Path.{_≡_};
+ghost use Prim.Native.Nat.{_+_, _-_, _*_, _≤_};
 ghost use lib.ListN.{length};
-ghost use Rattle.plan.specs.Header.{Framed};
+ghost use Rattle.plan.specs.Header.{Small, Framed};
 ghost use Rattle.plan.specs.Bytes.{codeWith};
-ghost use Rattle.plan.specs.Table.{Unpacked};
-ghost use Rattle.accept.specs.Verdict.{rowsVerdict, columnsVerdict};
+ghost use Rattle.plan.specs.Table.{entriesOf, wordAt, EntriesIn};
+ghost use Rattle.accept.specs.Pairs.{firstFailing, pairVerdict};
+ghost use Rattle.accept.specs.Windows.{windowsFree, startOf, Windows, Entries32, tableVerdict, conditionOf};
 use crate::pairs::pair_verdict;
 use crate::search::first_failing;
 use plan::header::Header;
@@ -12,41 +14,54 @@ use plan::table::Table;
 use plan::table::unpack;
 use plan::verdict::Verdict;
 
-// Check 8. The row table is unpacked into the lent words, and rest is room to work in.
-pub fn rows_verdict(plan: &[u8], h: Header, words: &mut [u64], rest: &mut [u64]) -> Verdict
-    requires { ⌜ Framed (now plan) h ⌝ }
+// Of a table of lines with step words each, in windows of burst lines. Rest is room to work in.
+fn lines_verdict(
+    number: usize,
+    t: Table,
+    lines: usize,
+    burst: usize,
+    step: usize,
+    words: &[u64],
+    rest: &mut [u64],
+) -> Verdict
+    requires { ⌜ (burst ≤ lines) × Windows (lines * step) step (burst * step) (lines - burst + 1) ⌝ }
     requires { ⌜ (length (now words) ≡ 2792) × (length (now rest) ≡ 2792) ⌝ }
-    ensures { λ r. ⌜ r ≡ rowsVerdict (codeWith (now (plan .entry)) h) ⌝ }
+    requires { ⌜ Entries32 (lines * step) (now words) ⌝ }
+    ensures { λ r. ⌜ r ≡ pairVerdict number (firstFailing (windowsFree t (wordAt (now (words .entry))) step (burst * step)) (startOf t) (lines - burst + 1)) ⌝ }
 {
-    unpack(plan, h, Table::Rows, words);
-    let n = h.n1 * h.b2;
-    let size = h.b1 * h.b2;
-    let count = h.n1 - h.b1 + 1;
+    let n = lines * step;
+    let count = lines - burst + 1;
     pair_verdict(
-        8,
-        first_failing(Table::Rows, &words[..n], h.b2, size, count, &mut rest[..n]),
+        number,
+        first_failing(t, &words[..n], step, burst * step, count, &mut rest[..n]),
     )
 }
 
-// Check 9. The column table is unpacked into the lent words, and stays there.
-pub fn columns_verdict(plan: &[u8], h: Header, words: &mut [u64], rest: &mut [u64]) -> Verdict
+// Check 8 of a row table in the first of the words, or check 9 of a column table.
+pub fn table_verdict(h: Header, t: Table, words: &[u64], rest: &mut [u64]) -> Verdict
+    requires { ⌜ Small h ⌝ }
+    requires { ⌜ (length (now words) ≡ 2792) × (length (now rest) ≡ 2792) ⌝ }
+    requires { ⌜ Entries32 (entriesOf h t) (now words) ⌝ }
+    ensures { λ r. ⌜ r ≡ tableVerdict h t (wordAt (now (words .entry))) ⌝ }
+{
+    match t {
+        Table::Rows => lines_verdict(8, t, h.n1, h.b1, h.b2, words, rest),
+        Table::Columns => lines_verdict(9, t, h.n2, h.b2, h.b1, words, rest),
+    }
+}
+
+// Check 8 or 9 of a plan. The table is unpacked into the lent words, and stays there.
+pub fn condition_verdict(
+    plan: &[u8],
+    h: Header,
+    t: Table,
+    words: &mut [u64],
+    rest: &mut [u64],
+) -> Verdict
     requires { ⌜ Framed (now plan) h ⌝ }
     requires { ⌜ (length (now words) ≡ 2792) × (length (now rest) ≡ 2792) ⌝ }
-    ensures { λ r. ⌜ (r ≡ columnsVerdict (codeWith (now (plan .entry)) h)) × Unpacked (now (plan .entry)) h (now (words .exit)) ⌝ }
+    ensures { λ r. ⌜ (r ≡ conditionOf (codeWith (now (plan .entry)) h) t) × EntriesIn (now (plan .entry)) h t (now (words .exit)) ⌝ }
 {
-    unpack(plan, h, Table::Columns, words);
-    let n = h.n2 * h.b1;
-    let size = h.b2 * h.b1;
-    let count = h.n2 - h.b2 + 1;
-    pair_verdict(
-        9,
-        first_failing(
-            Table::Columns,
-            &words[..n],
-            h.b1,
-            size,
-            count,
-            &mut rest[..n],
-        ),
-    )
+    unpack(plan, h, t, words);
+    table_verdict(h, t, words, rest)
 }

@@ -8,11 +8,11 @@ ghost use Rattle.plan.specs.Table.{Unpacked};
 ghost use Rattle.accept.specs.Verdict.{conditionsVerdict, planVerdict};
 ghost use Rattle.accept.specs.Checked.{Checked};
 use crate::checks::checks_verdict;
-use crate::conditions::columns_verdict;
-use crate::conditions::rows_verdict;
+use crate::conditions::condition_verdict;
 use plan::entry::header_of;
 use plan::form::form_verdict;
 use plan::header::Header;
+use plan::table::Table;
 use plan::verdict::Verdict;
 
 // Checks 8 to 10, of a plan of the right form.
@@ -23,11 +23,11 @@ fn conditions_verdict(plan: &[u8], h: Header, words: &mut [u64]) -> Verdict
     ensures { λ r. ⌜ (r ≡ conditionsVerdict (codeWith (now (plan .entry)) h)) × (r .number ≡ 0 → Unpacked (now (plan .entry)) h (now (words .exit))) ⌝ }
 {
     let mut rest = [0u64; 2792];
-    let rows = rows_verdict(plan, h, words, &mut rest);
+    let rows = condition_verdict(plan, h, Table::Rows, words, &mut rest);
     if rows.number != 0 {
         return rows;
     }
-    let columns = columns_verdict(plan, h, words, &mut rest);
+    let columns = condition_verdict(plan, h, Table::Columns, words, &mut rest);
     if columns.number != 0 {
         return columns;
     }

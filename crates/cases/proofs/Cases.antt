@@ -11,8 +11,8 @@ use Rattle.accept.specs.Pairs.{inRow, fromRow, firstFailing}
 use Rattle.plan.specs.Verdict.{_orElse_}
 use Rattle.plan.specs.Header.{headerOf}
 use Rattle.plan.specs.Bytes.{codeOf}
-use Rattle.plan.specs.Form.{badBurst, badSheet, badWidths, badOffsets, fieldsVerdict, headerVerdict, firstLarge, entriesVerdict, rises}
-use Rattle.plan.specs.Form.{badPair, listVerdict, formVerdict}
+use Rattle.plan.specs.Form.{badBurst, badSheet, badWidths, badOffsets, sizesVerdict, offsetsVerdict, fieldsVerdict, headerVerdict}
+use Rattle.plan.specs.Form.{firstLarge, entriesVerdict, rises, badPair, listVerdict, formVerdict}
 use Rattle.layout.specs.Number.{u16At, u32At}
 use Rattle.finite.specs.Search.{least, within, place}
 use Rattle.gf2.specs.Xor.{_⊕_}
@@ -43,10 +43,10 @@ run (reading plan sheet bits o) = reading plan sheet bits (readOutcome plan shee
 
 pub cases-hold : map run table ≡ table
 unfolding table S T planS planT planBytes planVerdict conditionsVerdict rowsVerdict columnsVerdict checksVerdict inRow fromRow
-    firstFailing _orElse_ headerOf codeOf badBurst badSheet badWidths badOffsets fieldsVerdict headerVerdict firstLarge entriesVerdict
-    rises badPair listVerdict formVerdict u16At u32At least within place _⊕_ spanned free rowWeight columnWeight jointWeight checkJoint
-    rowMember columnMember columnDifference stripEntry rowPairFree columnPairFree bit numberOf anyBelow countBelow firstOf pastOf pick
-    xorSum rowBytes sheetBytes byteOf cellOf usedBits unusedAt firstUnused tabulate byteFrom bytesOf cellNumber weightSum rowSyndrome
+    firstFailing _orElse_ headerOf codeOf badBurst badSheet badWidths badOffsets sizesVerdict offsetsVerdict fieldsVerdict headerVerdict
+    firstLarge entriesVerdict rises badPair listVerdict formVerdict u16At u32At least within place _⊕_ spanned free rowWeight columnWeight jointWeight
+    checkJoint rowMember columnMember columnDifference stripEntry rowPairFree columnPairFree bit numberOf anyBelow countBelow firstOf pastOf
+    pick xorSum rowBytes sheetBytes byteOf cellOf usedBits unusedAt firstUnused tabulate byteFrom bytesOf cellNumber weightSum rowSyndrome
     columnSyndrome boxCells patterns lefts trials trialCells tried hasBurst burstFor checkNumber checkAt checkIndex dataOrder dataSize
     rank dataCell fill belongs written dataOf change mended cellCount rowTouched columnTouched reportOf lengthVerdict unusedVerdict
     lengthChecks writeChecks readChecks writtenBytes write firstBurst burstIn readVerdict sheetRead bitsRead reportRead readOutcome xor

@@ -14,7 +14,7 @@ use Prim.Native.Nat.{ℕ, zero, suc, _+_, _-_, _*_, _^_, _≤_, _<_}
 use native.Mathlib.Nat.{mul-le-mul-right, suc-mul}
 use native.Mathlib.Decide.{decLt}
 use native.Mathlib.Omega.{arith}
-use borrow.Author.Tests.{ltb-false, ltb-true, leb-false, eqb-true, lt-leb, le-ltb, lt-ltb, ne-eqb, eq-eqb, not-false}
+use borrow.Author.Tests.{ltb-false, ltb-true, leb-false, eqb-true, lt-leb, le-ltb, lt-ltb, eq-eqb, not-false}
 use lib.Dec.{eqb, ltb, leb}
 use lib.ListN.{length}
 use Rattle.finite.specs.Search.{least}
@@ -25,10 +25,10 @@ use Rattle.plan.specs.declared.verdict.Verdict.{Verdict}
 use Rattle.plan.specs.Verdict.{accepted, refusal, verdictIf, _orElse_}
 use Rattle.plan.specs.Header.{headerLength, headerOf, Framed, columnsStart, checksStart, planLength}
 use Rattle.plan.specs.Bytes.{codeOf}
-use Rattle.plan.specs.Form.{badBurst, badSheet, badWidths, badOffsets, fieldsVerdict, headerVerdict, firstLarge, entriesVerdict}
+use Rattle.plan.specs.Form.{badOffsets, sizesVerdict, offsetsVerdict, fieldsVerdict, headerVerdict, firstLarge, entriesVerdict}
 use Rattle.plan.specs.Form.{rises, badPair, listVerdict, formVerdict, verdictAt}
-use Rattle.plan.proofs.Framing.{framed}
-use Rattle.plan.proofs.Sequence.{else-zero, else-second, if-zero}
+use Rattle.plan.proofs.Framing.{small-sizes, framed}
+use Rattle.plan.proofs.Sequence.{else-zero, else-second, else-if, if-zero}
 
 -- a search over n places whose refusal is not given has found nothing
 pub at-zero : (n : ℕ) (p : ℕ → Bool) (m a b : ℕ) → verdictAt n (least n p) (refusal (suc m) a b) .number ≡ 0 → (k : ℕ) → k < n → p k ≡ false
@@ -39,19 +39,10 @@ at-zero n p m a b e k l =
 pub zero-at : (n : ℕ) (p : ℕ → Bool) (v : Verdict) → ((k : ℕ) → k < n → p k ≡ false) → verdictAt n (least n p) v ≡ accepted
 zero-at n p v h = rw (least-none n p h, le-ltb n n (omega arith))
 
--- a check whose test fails accepts
-passes : (t : Bool) (v w : Verdict) → t ≡ false → (verdictIf t v orElse w) ≡ w
-passes t v w e = else-second (verdictIf t v) w (rw e)
-
--- four tests that all fail
-four-false : (a b c d : Bool) → a ≡ false → b ≡ false → c ≡ false → d ≡ false → (a || b || c || d) ≡ false
-four-false a b c d p q r s = rw (p, q, r, s)
-
 pub header-passes : (s : List ℕ) → Framed s (headerOf s) → headerVerdict s ≡ accepted
-unfolding headerVerdict fieldsVerdict badBurst badSheet badWidths badOffsets
+unfolding headerVerdict fieldsVerdict offsetsVerdict badOffsets
 header-passes s F =
     let h = headerOf s in
-    let p = F .small in
     let o : badOffsets (length s) h ≡ false =
     rw (
       eq-eqb (h .rows) headerLength (F .rows-at),
@@ -60,16 +51,8 @@ header-passes s F =
       eq-eqb (h .total) (planLength h) (F .total-at),
       eq-eqb (length s) (planLength h) (F .long),
     ) in
-    passes (ltb (length s) headerLength) _ _ (le-ltb (length s) headerLength (omega (arith, F .long)))
-    ∙ passes (badBurst h) _ _
-    (four-false _ _ _ _ (ne-eqb (h .b1) 0 (λ e. omega (arith, p .b1-pos))) (le-ltb 4 (h .b1) (p .b1-most)) (ne-eqb (h .b2) 0 (λ e. omega (arith, p .b2-pos)))
-    (le-ltb 4 (h .b2) (p .b2-most)))
-    ∙ passes (badSheet h) _ _
-    (four-false _ _ _ _ (le-ltb (h .n1) (h .b1) (p .n1-least)) (le-ltb 512 (h .n1) (p .n1-most)) (le-ltb (h .n2) (h .b2) (p .n2-least))
-    (le-ltb 698 (h .n2) (p .n2-most)))
-    ∙ passes (badWidths h) _ _
-    (four-false _ _ _ _ (ne-eqb (h .rv) 0 (λ e. omega (arith, p .rv-pos))) (le-ltb 32 (h .rv) (p .rv-most)) (ne-eqb (h .rh) 0 (λ e. omega (arith, p .rh-pos)))
-    (le-ltb 32 (h .rh) (p .rh-most)))
+    else-if (ltb (length s) headerLength) _ _ (le-ltb (length s) headerLength (omega (arith, F .long)))
+    ∙ else-second (sizesVerdict h) _ (ap (λ (v : Verdict). v .number) (small-sizes h (F .small)))
     ∙ ap (λ (t : Bool). verdictIf t (refusal 5 0 0)) o
 
 module _ (c : Code) where

@@ -1,26 +1,26 @@
 -- From the checks of the header to the bounds that every later step uses.
 --
---   small     where checks 2 to 4 pass, the header's numbers are in range
+--   sizes-small, small-sizes   checks 2 to 4 pass exactly where the header's numbers are in range
 --   position-fits   a cell's entry lies in its table
 --   framed    where checks 1 to 5 pass, the plan is framed
 --
 -- Assumes nothing.
-use mathlib.Core.Path.{_≡_, refl}
+use mathlib.Core.Path.{_≡_, refl, _∙_, ap}
 use mathlib.Core.Bool.{Bool, false, not, _||_}
 use mathlib.Core.List.{List}
 use Prim.Native.Nat.{ℕ, _+_, _*_, _%_, _≤_, _<_}
 use native.Mathlib.Nat.{mul-le-mul, mod-lt}
 use native.Mathlib.Omega.{arith}
-use borrow.Author.Tests.{ltb-false, eqb-false, eqb-true, not-false}
+use borrow.Author.Tests.{ltb-false, eqb-false, eqb-true, not-false, le-ltb, ne-eqb}
 use lib.Arith.{digits-lt}
 use lib.Dec.{eqb, ltb}
 use lib.ListN.{length}
 use Rattle.finite.proofs.Truth.{or-false}
 use Rattle.plan.specs.declared.header.Header.{Header}
-use Rattle.plan.specs.Verdict.{verdictIf, refusal}
+use Rattle.plan.specs.Verdict.{accepted, verdictIf, refusal}
 use Rattle.plan.specs.Header.{headerLength, headerOf, Small, Framed, columnsStart, checksStart, planLength}
-use Rattle.plan.specs.Form.{badBurst, badSheet, badWidths, badOffsets, fieldsVerdict, headerVerdict}
-use Rattle.plan.proofs.Sequence.{else-zero, if-zero}
+use Rattle.plan.specs.Form.{badBurst, badSheet, badWidths, badOffsets, sizesVerdict, offsetsVerdict, fieldsVerdict, headerVerdict}
+use Rattle.plan.proofs.Sequence.{else-zero, if-zero, else-if}
 
 -- four tests that all fail
 four : (a b c d : Bool) → (a || b || c || d) ≡ false → (a ≡ false) × (b ≡ false) × (c ≡ false) × (d ≡ false)
@@ -30,7 +30,7 @@ four a b c d e =
     let z = or-false a b (y .0) in
     (z .0, z .1, y .1, x .1)
 
-pub small : (h : Header) → badBurst h ≡ false → badSheet h ≡ false → badWidths h ≡ false → Small h
+small : (h : Header) → badBurst h ≡ false → badSheet h ≡ false → badWidths h ≡ false → Small h
 unfolding badBurst badSheet badWidths
 small h p q r =
     let burst = four (eqb (h .b1) 0) (ltb 4 (h .b1)) (eqb (h .b2) 0) (ltb 4 (h .b2)) p in
@@ -62,24 +62,46 @@ small h p q r =
       box-positions = mul-le-mul b1-most b2-most;
     }
 
+pub sizes-small : (h : Header) → sizesVerdict h .number ≡ 0 → Small h
+unfolding sizesVerdict
+sizes-small h e =
+    let burst = else-zero (verdictIf (badBurst h) (refusal 2 0 0)) _ e in
+    let sheet = else-zero (verdictIf (badSheet h) (refusal 3 0 0)) (verdictIf (badWidths h) (refusal 4 0 0)) (burst .1) in
+    small h (if-zero (badBurst h) 1 0 0 (burst .0)) (if-zero (badSheet h) 2 0 0 (sheet .0)) (if-zero (badWidths h) 3 0 0 (sheet .1))
+
+-- four tests that all fail
+four-false : (a b c d : Bool) → a ≡ false → b ≡ false → c ≡ false → d ≡ false → (a || b || c || d) ≡ false
+four-false a b c d p q r s = rw (p, q, r, s)
+
+pub small-sizes : (h : Header) → Small h → sizesVerdict h ≡ accepted
+unfolding sizesVerdict badBurst badSheet badWidths
+small-sizes h p =
+    else-if (badBurst h) _ _
+    (four-false _ _ _ _ (ne-eqb (h .b1) 0 (λ e. omega (arith, p .b1-pos))) (le-ltb 4 (h .b1) (p .b1-most)) (ne-eqb (h .b2) 0 (λ e. omega (arith, p .b2-pos)))
+    (le-ltb 4 (h .b2) (p .b2-most)))
+    ∙ else-if (badSheet h) _ _
+    (four-false _ _ _ _ (le-ltb (h .n1) (h .b1) (p .n1-least)) (le-ltb 512 (h .n1) (p .n1-most)) (le-ltb (h .n2) (h .b2) (p .n2-least))
+    (le-ltb 698 (h .n2) (p .n2-most)))
+    ∙ ap (λ (t : Bool). verdictIf t (refusal 4 0 0))
+    (four-false _ _ _ _ (ne-eqb (h .rv) 0 (λ e. omega (arith, p .rv-pos))) (le-ltb 32 (h .rv) (p .rv-most)) (ne-eqb (h .rh) 0 (λ e. omega (arith, p .rh-pos)))
+    (le-ltb 32 (h .rh) (p .rh-most)))
+
 -- a negated equality test that fails
 same : (a b : ℕ) → not (eqb a b) ≡ false → a ≡ b
 same a b e = eqb-true a b (not-false (eqb a b) e)
 
 pub framed : (s : List ℕ) → headerVerdict s .number ≡ 0 → Framed s (headerOf s)
-unfolding headerVerdict fieldsVerdict badOffsets
+unfolding headerVerdict fieldsVerdict offsetsVerdict badOffsets
 framed s e =
     let h = headerOf s in
     let long = else-zero (verdictIf (ltb (length s) headerLength) (refusal 1 0 0)) (fieldsVerdict (length s) h) e in
-    let burst = else-zero (verdictIf (badBurst h) (refusal 2 0 0)) _ (long .1) in
-    let sheet = else-zero (verdictIf (badSheet h) (refusal 3 0 0)) _ (burst .1) in
-    let widths = else-zero (verdictIf (badWidths h) (refusal 4 0 0)) (verdictIf (badOffsets (length s) h) (refusal 5 0 0)) (sheet .1) in
-    let offsets = or-false _ (not (eqb (length s) (planLength h))) (if-zero (badOffsets (length s) h) 4 0 0 (widths .1)) in
+    let sizes = else-zero (sizesVerdict h) (offsetsVerdict (length s) h) (long .1) in
+    let offsets = or-false _ (not (eqb (length s) (planLength h))) (if-zero (badOffsets (length s) h) 4 0 0 (sizes .1)) in
     let three = four (not (eqb (h .rows) headerLength)) (not (eqb (h .columns) (columnsStart h))) (not (eqb (h .checks) (checksStart h)))
     (not (eqb (h .total) (planLength h))) (offsets .0) in
     record {
       is = refl;
-      small = small h (if-zero (badBurst h) 1 0 0 (burst .0)) (if-zero (badSheet h) 2 0 0 (sheet .0)) (if-zero (badWidths h) 3 0 0 (widths .0));
+      small = sizes-small h (sizes .0);
       rows-at = same (h .rows) headerLength (three .0);
       columns-at = same (h .columns) (columnsStart h) (three .1);
       checks-at = same (h .checks) (checksStart h) (three .2);

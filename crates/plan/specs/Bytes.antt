@@ -4,7 +4,8 @@
 --   checkRowAt, checkColumnAt        row and column of a pair of the check list
 --   checkCellAt                      the pair, as the code has it
 --   Weight, CheckCell                what is promised of a cell's entry and of a pair
---   codeOf                           all of a plan, as the code's mathematics has it
+--   codeFrom                         the code with the numbers of a header, and these tables and this check list
+--   codeWith, codeOf                 all of a plan, as the code's mathematics has it
 use Prim.Native.Nat.{ℕ, _+_, _*_, _<_}
 use mathlib.Core.Path.{_≡_}
 use mathlib.Core.List.{List}
@@ -29,20 +30,23 @@ checkColumnAt s h k = u16At s (checksStart h + 4 * k + 2)
 abbrev pub checkCellAt : List ℕ → Header → ℕ → Cell
 checkCellAt s h k = record { row = checkRowAt s h k; column = checkColumnAt s h k }
 
--- the code with the header h in the bytes s
-abbrev pub codeWith : List ℕ → Header → Code
-codeWith s h = record {
+abbrev pub codeFrom : Header → (v w row column : ℕ → ℕ) → Code
+codeFrom h v w row column = record {
   n1 = h .n1;
   n2 = h .n2;
   b1 = h .b1;
   b2 = h .b2;
   rv = h .rv;
   rh = h .rh;
-  rowEntry = rowEntryAt s;
-  columnEntry = columnEntryAt s h;
-  checkRow = checkRowAt s h;
-  checkColumn = checkColumnAt s h;
+  rowEntry = v;
+  columnEntry = w;
+  checkRow = row;
+  checkColumn = column;
 }
+
+-- the code with the header h in the bytes s
+abbrev pub codeWith : List ℕ → Header → Code
+codeWith s h = codeFrom h (rowEntryAt s) (columnEntryAt s h) (checkRowAt s h) (checkColumnAt s h)
 
 unfoldable pub codeOf : List ℕ → Code
 codeOf s = codeWith s (headerOf s)

@@ -1,6 +1,8 @@
 -- The rules of form, checks 1 to 7 of document 01's table, each a definition of its own.
 --
 --   badBurst, badSheet, badWidths, badOffsets   checks 2 to 5, over plain numbers
+--   sizesVerdict      checks 2 to 4: the header's six numbers, which need no plan
+--   offsetsVerdict    check 5: where the tables stand
 --   headerVerdict     checks 1 to 5
 --   firstLarge        the first position of a table whose entry has too many bits, or the table's size
 --   entriesVerdict    check 6, of V and then of H
@@ -38,11 +40,17 @@ badOffsets size h =
     not (eqb (h .rows) headerLength) || not (eqb (h .columns) (columnsStart h)) || not (eqb (h .checks) (checksStart h))
     || not (eqb (h .total) (planLength h)) || not (eqb size (planLength h))
 
+unfoldable pub sizesVerdict : Header → Verdict
+sizesVerdict h =
+    verdictIf (badBurst h) (refusal 2 0 0) orElse verdictIf (badSheet h) (refusal 3 0 0)
+    orElse verdictIf (badWidths h) (refusal 4 0 0)
+
+unfoldable pub offsetsVerdict : ℕ → Header → Verdict
+offsetsVerdict size h = verdictIf (badOffsets size h) (refusal 5 0 0)
+
 -- checks 2 to 5 of a plan of size bytes
 unfoldable pub fieldsVerdict : ℕ → Header → Verdict
-fieldsVerdict size h =
-    verdictIf (badBurst h) (refusal 2 0 0) orElse verdictIf (badSheet h) (refusal 3 0 0)
-    orElse verdictIf (badWidths h) (refusal 4 0 0) orElse verdictIf (badOffsets size h) (refusal 5 0 0)
+fieldsVerdict size h = sizesVerdict h orElse offsetsVerdict size h
 
 unfoldable pub headerVerdict : List ℕ → Verdict
 headerVerdict s =

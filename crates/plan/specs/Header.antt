@@ -3,6 +3,7 @@
 --   headerLength   the number of bytes of the header
 --   headerOf       the ten numbers of the header; total is the length of the plan
 --   columnsStart, checksStart, planLength   where the column table and the check list begin and the plan ends, by the rule
+--   ruled h        the header with the six numbers of h, and its places and length by the rule
 --   Small h        checks 2 to 4 hold
 --   Framed s h     h is the header of the plan s, and checks 1 to 5 hold: what every later step starts from
 use Prim.Native.Nat.{ℕ, _+_, _*_, _≤_}
@@ -37,6 +38,20 @@ checksStart h = columnsStart h + 4 * (h .n2 * h .b1)
 
 abbrev pub planLength : Header → ℕ
 planLength h = checksStart h + 4 * (h .rv + h .rh)
+
+unfoldable pub ruled : Header → Header
+ruled h = record {
+  n1 = h .n1;
+  n2 = h .n2;
+  b1 = h .b1;
+  b2 = h .b2;
+  rv = h .rv;
+  rh = h .rh;
+  rows = headerLength;
+  columns = columnsStart h;
+  checks = checksStart h;
+  total = planLength h;
+}
 
 -- checks 2 to 4 hold of a header, and what follows for the sizes of its tables
 pub record Small (h : Header) : Type 0 where

@@ -5,12 +5,13 @@ ghost use Rattle.finite.specs.Search.{least};
 ghost use Rattle.plan.specs.Header.{Small, Framed};
 ghost use Rattle.plan.specs.Bytes.{codeWith};
 ghost use Rattle.plan.specs.Table.{entriesOf, entryOf};
-ghost use Rattle.plan.specs.Form.{badBurst, badSheet, badWidths, badOffsets, fieldsVerdict, headerVerdict, firstLarge};
-ghost use Rattle.plan.specs.Form.{entriesVerdict, rises, badPair, listVerdict, formVerdict};
+ghost use Rattle.plan.specs.Form.{badBurst, badSheet, badWidths, badOffsets, sizesVerdict, offsetsVerdict, fieldsVerdict};
+ghost use Rattle.plan.specs.Form.{headerVerdict, firstLarge, entriesVerdict, rises, badPair, listVerdict, formVerdict};
 use crate::entry::check_cell;
 use crate::entry::header_of;
 use crate::header::Header;
 use crate::header::LENGTH;
+use crate::header::ruled;
 use crate::table::Table;
 use crate::table::entry;
 use crate::verdict::Verdict;
@@ -43,19 +44,17 @@ fn bad_offsets(size: usize, h: Header) -> bool
     requires { ⌜ Small h ⌝ }
     ensures { λ r. ⌜ r ≡ badOffsets size h ⌝ }
 {
-    let columns = LENGTH + 4 * (h.n1 * h.b2);
-    let checks = columns + 4 * (h.n2 * h.b1);
-    let end = checks + 4 * (h.rv + h.rh);
-    (h.rows != LENGTH)
-        | (h.columns != columns)
-        | (h.checks != checks)
-        | (h.total != end)
-        | (size != end)
+    let by_rule = ruled(h);
+    (h.rows != by_rule.rows)
+        | (h.columns != by_rule.columns)
+        | (h.checks != by_rule.checks)
+        | (h.total != by_rule.total)
+        | (size != by_rule.total)
 }
 
-// Checks 2 to 5, of the header of a plan of size bytes.
-fn fields_verdict(size: usize, h: Header) -> Verdict
-    ensures { λ r. ⌜ r ≡ fieldsVerdict size h ⌝ }
+// Checks 2 to 4: the six numbers of a header, with or without a plan.
+pub fn sizes_verdict(h: Header) -> Verdict
+    ensures { λ r. ⌜ r ≡ sizesVerdict h ⌝ }
 {
     if bad_burst(h) {
         return refuse(2, 0, 0);
@@ -63,10 +62,26 @@ fn fields_verdict(size: usize, h: Header) -> Verdict
     if bad_sheet(h) {
         return refuse(3, 0, 0);
     }
-    if bad_widths(h) {
-        return refuse(4, 0, 0);
-    }
+    refuse_if(bad_widths(h), 4, 0, 0)
+}
+
+// Check 5, of a plan of size bytes. The sizes come first: the rule's sums then can't wrap.
+pub fn offsets_verdict(size: usize, h: Header) -> Verdict
+    requires { ⌜ Small h ⌝ }
+    ensures { λ r. ⌜ r ≡ offsetsVerdict size h ⌝ }
+{
     refuse_if(bad_offsets(size, h), 5, 0, 0)
+}
+
+// Checks 2 to 5, of the header of a plan of size bytes.
+fn fields_verdict(size: usize, h: Header) -> Verdict
+    ensures { λ r. ⌜ r ≡ fieldsVerdict size h ⌝ }
+{
+    let sizes = sizes_verdict(h);
+    if sizes.number != 0 {
+        return sizes;
+    }
+    offsets_verdict(size, h)
 }
 
 // Checks 1 to 5.

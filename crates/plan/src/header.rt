@@ -2,7 +2,7 @@
 ghost use mathlib.Core.Path.{_≡_};
 ghost use Prim.Native.Nat.{_≤_};
 ghost use lib.ListN.{length};
-ghost use Rattle.plan.specs.Header.{headerLength, headerOf};
+ghost use Rattle.plan.specs.Header.{headerLength, headerOf, ruled, Small};
 use layout::number::u16_at;
 
 // How many bytes a header has: one name, since a later format has another.
@@ -37,5 +37,26 @@ pub(crate) fn read(plan: &[u8]) -> Header
         columns: u16_at(plan, 14),
         checks: u16_at(plan, 16),
         total: u16_at(plan, 18),
+    }
+}
+
+// The header with the six numbers of h, and its places and length by the rule: the one place where the rule is computed.
+pub fn ruled(h: Header) -> Header
+    requires { ⌜ Small h ⌝ }
+    ensures { λ r. ⌜ r ≡ ruled h ⌝ }
+{
+    let columns = LENGTH + 4 * (h.n1 * h.b2);
+    let checks = columns + 4 * (h.n2 * h.b1);
+    Header {
+        n1: h.n1,
+        n2: h.n2,
+        b1: h.b1,
+        b2: h.b2,
+        rv: h.rv,
+        rh: h.rh,
+        rows: LENGTH,
+        columns,
+        checks,
+        total: checks + 4 * (h.rv + h.rh),
     }
 }

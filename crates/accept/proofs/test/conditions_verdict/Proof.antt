@@ -27,11 +27,11 @@ module _ (code : Code) where
       → w ≡ conditionsVerdict code
   at-checks er nr e n ew = ew ∙ sym (passed er nr ∙ else-second (columnsVerdict code) _ (ap (λ (v : Verdict). v .number) (sym e) ∙ n))
 
-slice-aggregate-rows-verdict : tie.Need-slice-aggregate-rows-verdict
-slice-aggregate-rows-verdict c = search needs
+slice-aggregate-condition-verdict : tie.Need-slice-aggregate-condition-verdict
+slice-aggregate-condition-verdict c = search needs
 
-rows-verdict-requires : tie.Need-rows-verdict-requires
-rows-verdict-requires c κs = search needs
+condition-verdict-requires : tie.Need-condition-verdict-requires
+condition-verdict-requires c κs = search needs
 
 same-length : tie.Need-same-length
 same-length c = search needs
@@ -40,13 +40,13 @@ returns : tie.Need-returns
 returns c =
     let s = c .before .before .before .before .before .before .before .before .before .before .args in
     let n = c .if1 .taken in
-    (at-rows (codeWith (s .plan .now) (s .h)) (c .before .before .before .before .before .rows-verdict .ensures) n, λ z. absurd (n z))
+    (at-rows (codeWith (s .plan .now) (s .h)) (c .before .before .before .before .before .condition-verdict .ensures .0) n, λ z. absurd (n z))
 
-slice-aggregate-columns-verdict : tie.Need-slice-aggregate-columns-verdict
-slice-aggregate-columns-verdict c = search needs
+slice-aggregate-condition-verdict-2 : tie.Need-slice-aggregate-condition-verdict-2
+slice-aggregate-condition-verdict-2 c = search needs
 
-columns-verdict-requires : tie.Need-columns-verdict-requires
-columns-verdict-requires c κs = search needs
+condition-verdict-requires-2 : tie.Need-condition-verdict-requires-2
+condition-verdict-requires-2 c κs = search needs
 
 same-length-2 : tie.Need-same-length-2
 same-length-2 c = search needs
@@ -56,8 +56,9 @@ returns-2 c =
     let v = c .before .before .before .before .before in
     let r = v .before .before .before .before .before .before .before .before in
     let s = r .before .before .before .before .before .args in
+    let p = v .before .before .before .if1 .left in
     let n = c .if2 .taken in (
-      at-columns (codeWith (s .plan .now) (s .h)) (r .rows-verdict .ensures) (v .before .before .before .if1 .left) (v .columns-verdict .ensures .0) n,
+      at-columns (codeWith (s .plan .now) (s .h)) (r .condition-verdict .ensures .0) p (v .condition-verdict2 .ensures .0) n,
       λ z. absurd (n z),
     )
 
@@ -72,20 +73,20 @@ returns-3 c =
     let v = c .before .before .before .before .before .before in
     let r = v .before .before .before .before .before .before .before .before in
     let s = r .before .before .before .before .before .args in
-    let e = v .columns-verdict .ensures in
+    let e = v .condition-verdict2 .ensures in
     let p = v .before .before .before .if1 .left in
-    (at-checks (codeWith (s .plan .now) (s .h)) (r .rows-verdict .ensures) p (e .0) (c .before .if2 .left) (c .checks-verdict .ensures), λ _. e .1)
+    (at-checks (codeWith (s .plan .now) (s .h)) (r .condition-verdict .ensures .0) p (e .0) (c .before .if2 .left) (c .checks-verdict .ensures), λ _. e .1)
 
 pub conditions-verdict-spec : {M : Type 1} → statement M
 conditions-verdict-spec =
     tie.close
     (tie.spec
-    slice-aggregate-rows-verdict
-    rows-verdict-requires
+    slice-aggregate-condition-verdict
+    condition-verdict-requires
     same-length
     returns
-    slice-aggregate-columns-verdict
-    columns-verdict-requires
+    slice-aggregate-condition-verdict-2
+    condition-verdict-requires-2
     same-length-2
     returns-2
     checks-verdict-requires

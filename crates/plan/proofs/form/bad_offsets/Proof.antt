@@ -1,52 +1,28 @@
--- `plan::form::bad_offsets` meets its contract: the numbers are small, so no sum wraps. Assumes nothing.
-use mathlib.Core.Path.{refl}
+-- `plan::form::bad_offsets` meets its contract: the rule is computed in `ruled`. Assumes nothing.
+use mathlib.Core.Path.{_≡_}
+use mathlib.Core.Bool.{not, _||_}
+use Prim.Native.Nat.{ℕ}
+use lib.Dec.{eqb}
+use Rattle.plan.specs.declared.header.Header.{Header}
+use Rattle.plan.specs.Header.{ruled}
 use Rattle.plan.specs.Form.{badOffsets}
 use borrow.Author.Needs.{needs}
 use Rattle.plan.proofs.form.bad_offsets.Statement.{statement}
 use Rattle.plan.proofs.form.bad_offsets.Tie as tie
 
-mul-columns : tie.Need-mul-columns
-mul-columns c = search needs
+compared : (size : ℕ) (h r : Header) → r ≡ ruled h
+    → (not (eqb (h .rows) (r .rows)) || not (eqb (h .columns) (r .columns)) || not (eqb (h .checks) (r .checks)) || not (eqb (h .total) (r .total))
+    || not (eqb size (r .total))) ≡ badOffsets size h
+unfolding badOffsets ruled
+compared size h r e = rw e
 
-mul-columns-2 : tie.Need-mul-columns-2
-mul-columns-2 c = search needs
-
-add-columns : tie.Need-add-columns
-add-columns c = search needs
-
-mul-checks : tie.Need-mul-checks
-mul-checks c = search needs
-
-mul-checks-2 : tie.Need-mul-checks-2
-mul-checks-2 c = search needs
-
-add-checks : tie.Need-add-checks
-add-checks c = search needs
-
-add-end : tie.Need-add-end
-add-end c = search needs
-
-mul-end : tie.Need-mul-end
-mul-end c = search needs
-
-add-end-2 : tie.Need-add-end-2
-add-end-2 c = search needs
+ruled-requires : tie.Need-ruled-requires
+ruled-requires c κs = search needs
 
 returns : tie.Need-returns
-unfolding badOffsets
-returns c = refl
+returns c =
+    let s = c .before .before .before .before .before .before .before .before .before in
+    compared (s .before .args .size) (s .before .args .h) _ (s .ruled .ensures)
 
 pub bad-offsets-spec : {M : Type 1} → statement M
-bad-offsets-spec =
-    tie.close
-    (tie.spec
-    mul-columns
-    mul-columns-2
-    add-columns
-    mul-checks
-    mul-checks-2
-    add-checks
-    add-end
-    mul-end
-    add-end-2
-    returns)
+bad-offsets-spec = tie.close (tie.spec ruled-requires returns)

@@ -1,79 +1,31 @@
 -- `plan::form::fields_verdict` meets its contract: where checks 2 to 4 pass the header is small, and check 5 can be computed. Assumes nothing.
-use mathlib.Core.Path.{_≡_}
-use mathlib.Core.Bool.{true, false}
-use Rattle.plan.specs.Verdict.{_orElse_}
-use Rattle.plan.specs.Form.{badBurst, badSheet, badWidths, fieldsVerdict}
-use Rattle.plan.proofs.Framing.{small}
+use mathlib.Core.Path.{_≡_, sym, ap, _∙_}
+use Rattle.plan.specs.declared.verdict.Verdict.{Verdict}
+use Rattle.plan.specs.Form.{sizesVerdict, fieldsVerdict}
+use Rattle.plan.proofs.Framing.{sizes-small}
+use Rattle.plan.proofs.Sequence.{else-first, else-second}
 use borrow.Author.Needs.{needs}
 use Rattle.plan.proofs.form.fields_verdict.Statement.{statement}
 use Rattle.plan.proofs.form.fields_verdict.Tie as tie
 
-bad-burst-requires : tie.Need-bad-burst-requires
-bad-burst-requires c κs = search needs
+-- checks 2 to 4 passed
+passed : (c : tie.Else1) → sizesVerdict (c .before .before .before .args .h) .number ≡ 0
+passed c = ap (λ (v : Verdict). v .number) (sym (c .before .before .sizes-verdict .ensures)) ∙ c .if1 .left
 
-refuse-requires : tie.Need-refuse-requires
-refuse-requires c κs = search needs
+sizes-verdict-requires : tie.Need-sizes-verdict-requires
+sizes-verdict-requires c κs = search needs
 
 returns : tie.Need-returns
-unfolding fieldsVerdict _orElse_
-returns c =
-    let b : badBurst (c .before .before .before .args .h) ≡ true = cc in
-    rw b (c .refuse .ensures)
+unfolding fieldsVerdict
+returns c = rw (← (c .before .before .sizes-verdict .ensures)) (sym (else-first _ _ (c .if1 .taken)))
 
-bad-sheet-requires : tie.Need-bad-sheet-requires
-bad-sheet-requires c κs = search needs
-
-refuse-requires-2 : tie.Need-refuse-requires-2
-refuse-requires-2 c κs = search needs
+offsets-verdict-requires : tie.Need-offsets-verdict-requires
+offsets-verdict-requires c κs = sizes-small _ (passed c)
 
 returns-2 : tie.Need-returns-2
-unfolding fieldsVerdict _orElse_
-returns-2 c =
-    let b : badBurst (c .before .before .before .before .before .args .h) ≡ false = cc in
-    let s : badSheet (c .before .before .before .before .before .args .h) ≡ true = cc in
-    rw (b, s) (c .refuse2 .ensures)
-
-bad-widths-requires : tie.Need-bad-widths-requires
-bad-widths-requires c κs = search needs
-
-refuse-requires-3 : tie.Need-refuse-requires-3
-refuse-requires-3 c κs = search needs
-
-returns-3 : tie.Need-returns-3
-unfolding fieldsVerdict _orElse_
-returns-3 c =
-    let b : badBurst (c .before .before .before .before .before .before .before .args .h) ≡ false = cc in
-    let s : badSheet (c .before .before .before .before .before .before .before .args .h) ≡ false = cc in
-    let w : badWidths (c .before .before .before .before .before .before .before .args .h) ≡ true = cc in
-    rw (b, s, w) (c .refuse3 .ensures)
-
-bad-offsets-requires : tie.Need-bad-offsets-requires
-bad-offsets-requires c κs = small (c .before .before .before .before .before .before .args .h) (cc) (cc) (cc)
-
-refuse-if-requires : tie.Need-refuse-if-requires
-refuse-if-requires c κs = search needs
-
-returns-4 : tie.Need-returns-4
-unfolding fieldsVerdict _orElse_
-returns-4 c =
-    let b : badBurst (c .before .before .before .before .before .before .before .before .args .h) ≡ false = cc in
-    let s : badSheet (c .before .before .before .before .before .before .before .before .args .h) ≡ false = cc in
-    let w : badWidths (c .before .before .before .before .before .before .before .before .args .h) ≡ false = cc in
-    rw (b, s, w, ← (c .before .bad-offsets .ensures)) (c .refuse-if .ensures)
+unfolding fieldsVerdict
+returns-2 c = c .offsets-verdict .ensures ∙ sym (else-second _ _ (passed (c .before)))
 
 pub fields-verdict-spec : {M : Type 1} → statement M
 fields-verdict-spec =
-    tie.close
-    (tie.spec
-    bad-burst-requires
-    refuse-requires
-    returns
-    bad-sheet-requires
-    refuse-requires-2
-    returns-2
-    bad-widths-requires
-    refuse-requires-3
-    returns-3
-    bad-offsets-requires
-    refuse-if-requires
-    returns-4)
+    tie.close (tie.spec sizes-verdict-requires returns offsets-verdict-requires returns-2)
