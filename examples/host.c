@@ -8,11 +8,11 @@
 #include "sheet.h"
 
 #include <stdio.h>
+#include <stdlib.h>
 #include <string.h>
 
-enum { ROWS = 16, COLUMNS = 40, HEIGHT = 3, WIDTH = 3, RV = 22, RH = 14, CHECKS = RV + RH };
-enum { V_AT = SHEET_PLAN_HEADER_BYTES, H_AT = V_AT + 4 * ROWS * WIDTH };
-enum { LIST_AT = H_AT + 4 * COLUMNS * HEIGHT, PLAN_LEN = LIST_AT + 4 * CHECKS };
+enum { ROWS = 16, COLUMNS = 40, HEIGHT = 3, WIDTH = 3 };
+enum { RV = 22, V_LOW = 0x39f0d, RH = 14, H_LOW = 0x8f7, CHECKS = RV + RH };
 enum { ROW_BYTES = (COLUMNS + 7) / 8, SHEET_LEN = ROWS * ROW_BYTES, DATA_LEN = (ROWS * COLUMNS - CHECKS + 7) / 8 };
 
 static const char *const drawing[ROWS] = {
@@ -26,62 +26,25 @@ static const char *const drawing[ROWS] = {
     ".#..#..#..#..#..#..#..#..#..#..#..#..#..", "..#..#..#..#..#..#..#..#..#..#..#..#..#.",
 };
 
-static uint8_t plan[PLAN_LEN], data[DATA_LEN], back[DATA_LEN], sheet[SHEET_LEN], scan[SHEET_LEN];
+static uint8_t *plan;
+static size_t plan_len;
+static uint8_t data[DATA_LEN], back[DATA_LEN], sheet[SHEET_LEN], scan[SHEET_LEN];
 static int is_check[ROWS][COLUMNS];
 
-static void put16(size_t at, unsigned n) {
-    plan[at] = (uint8_t)(n & 255);
-    plan[at + 1] = (uint8_t)(n >> 8 & 255);
+/* A plan from two polynomials, which serve for sheets from 8 rows and 7 columns up to 512 and 698. */
+static uint64_t make_plan(void) {
+    plan_len = sheet_plan_bytes(ROWS, COLUMNS, HEIGHT, WIDTH, RV, RH);
+    plan = malloc(plan_len);
+    if (plan == NULL) exit(1);
+    return sheet_plan_make(ROWS, COLUMNS, HEIGHT, WIDTH, RV, V_LOW, RH, H_LOW, plan, plan_len);
 }
 
-static void put32(size_t at, uint32_t n) {
-    put16(at, n & 65535);
-    put16(at + 2, n >> 16);
-}
+static size_t number16(size_t at) { return plan[at] + 256u * plan[at + 1]; }
 
-static uint32_t get32(size_t at) {
-    return plan[at] | (uint32_t)plan[at + 1] << 8 | (uint32_t)plan[at + 2] << 16 | (uint32_t)plan[at + 3] << 24;
-}
-
-/* count entries from a place on: the powers of z modulo the polynomial z^degree + low */
-static void put_powers(size_t at, size_t count, unsigned degree, uint32_t low) {
-    uint32_t x = 1;
-    for (size_t k = 0; k < count; k++) {
-        put32(at + 4 * k, x);
-        x <<= 1;
-        if (x >> degree & 1) x ^= (uint32_t)1 << degree ^ low;
-    }
-}
-
-/* the joint entry of a cell: its V entry, and its H entry above the RV bits of that */
-static uint64_t joint(size_t i, size_t j) {
-    return get32(V_AT + 4 * (i * WIDTH + j % WIDTH)) | (uint64_t)get32(H_AT + 4 * (j * HEIGHT + i % HEIGHT)) << RV;
-}
-
-/* The header, two tables of powers, and as check cells the first cells whose joint entries are independent. */
-static void make_plan(void) {
-    static const unsigned header[10] = {ROWS, COLUMNS, HEIGHT, WIDTH, RV, RH, V_AT, H_AT, LIST_AT, PLAN_LEN};
-    uint64_t basis[64] = {0};
-    size_t found = 0;
-    for (size_t k = 0; k < 10; k++) put16(2 * k, header[k]);
-    put_powers(V_AT, (size_t)ROWS * WIDTH, RV, 0x39f0d);
-    put_powers(H_AT, (size_t)COLUMNS * HEIGHT, RH, 0x8f7);
-    for (size_t t = 0; t < (size_t)ROWS * COLUMNS && found < CHECKS; t++) {
-        size_t i = t / COLUMNS, j = t % COLUMNS;
-        uint64_t x = joint(i, j);
-        for (int b = 63; b >= 0; b--) {
-            if (!(x >> b & 1)) continue;
-            if (basis[b] == 0) {
-                basis[b] = x;
-                put16(LIST_AT + 4 * found, (unsigned)i);
-                put16(LIST_AT + 4 * found + 2, (unsigned)j);
-                is_check[i][j] = 1;
-                found++;
-                break;
-            }
-            x ^= basis[b];
-        }
-    }
+/* The check cells, row and column, from the list at the end of the plan. The header tells where it begins. */
+static void find_checks(void) {
+    for (size_t at = sheet_plan_field(plan, plan_len, 16); at < plan_len; at += 4)
+        is_check[number16(at)][number16(at + 2)] = 1;
 }
 
 /* The drawing as data: the cells that are not check cells, in sheet order. */
@@ -124,16 +87,15 @@ static void show_checks(void) {
 }
 
 int main(void) {
-    uint64_t answer;
-    make_plan();
-    answer = sheet_plan_test(plan, PLAN_LEN);
+    uint64_t answer = make_plan();
     if (sheet_answer_number(answer) != SHEET_OK) {
         printf("plan turned back: %u at %u, %u\n", sheet_answer_number(answer), sheet_answer_p(answer),
                sheet_answer_q(answer));
         return 1;
     }
+    find_checks();
     draw();
-    if (sheet_write(plan, PLAN_LEN, data, DATA_LEN, sheet, SHEET_LEN) != SHEET_OK) return 1;
+    if (sheet_write(plan, plan_len, data, DATA_LEN, sheet, SHEET_LEN) != SHEET_OK) return 1;
     show_checks();
     show("\nwritten:", sheet, 0);
 
@@ -144,7 +106,7 @@ int main(void) {
     turn(scan, 7, 12);
     show("\nscanned, with a burst:", scan, 0);
 
-    answer = sheet_read(plan, PLAN_LEN, scan, SHEET_LEN, back, DATA_LEN);
+    answer = sheet_read(plan, plan_len, scan, SHEET_LEN, back, DATA_LEN);
     if (sheet_answer_number(answer) != SHEET_OK) return 1;
     show("\nread:", scan, answer);
     printf("\n%u cells mended, at row %u, column %u, height %u, width %u\n", sheet_answer_cells(answer),
@@ -152,5 +114,6 @@ int main(void) {
            sheet_answer_width(answer));
     if (memcmp(scan, sheet, SHEET_LEN) != 0 || memcmp(back, data, DATA_LEN) != 0) return 1;
     printf("the sheet and its data are as written\n");
+    free(plan);
     return 0;
 }

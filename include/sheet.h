@@ -1,8 +1,8 @@
 /*
  * sheet.h: pattern sheets that survive one burst.
  *
- * Three calls on byte buffers: test a plan, write a sheet, read a sheet. Each answers one 64-bit number, which the
- * functions below take apart. The bytes of plans, sheets and data are described in docs/FORMAT.md.
+ * Four calls on byte buffers: make a plan, test a plan, write a sheet, read a sheet. Each answers one 64-bit number,
+ * which the functions below take apart. The bytes of plans, sheets and data are described in docs/FORMAT.md.
  *
  * Promise, proved for every accepted plan (docs/PROMISE.md): a sheet that sheet_write made, with any cells of one
  * rectangle of the plan's b1 rows and b2 columns turned over, is read back by sheet_read as it was written.
@@ -22,8 +22,8 @@
  *
  * What a caller owes: each length is the true length of its buffer, and a buffer that a call writes overlaps no other
  * buffer of that call. Where a length is 0, its pointer may be anything, null too: it is not followed. Nothing else is
- * owed: any bytes may be handed in. The calls use no heap and no globals, keep no pointer, and may run in several
- * threads at once. The stack they need is told below.
+ * owed: any bytes and any numbers may be handed in. The calls use no heap and no globals, keep no pointer, and may run
+ * in several threads at once. The stack they need is told below.
  *
  * Every call makes all its checks before it writes. A call that turns something back changes no byte of any buffer.
  *
@@ -47,6 +47,7 @@ typedef char sheet_size_t_has_8_bytes[sizeof(size_t) == 8 ? 1 : -1];
 
 enum {
     SHEET_PLAN_HEADER_BYTES = 20,     /* the header of a plan: ten numbers of 16 bits */
+    SHEET_PLAN_MAKE_STACK = 98304,    /* bytes of stack that are enough for sheet_plan_make */
     SHEET_PLAN_TEST_STACK = 65536,    /* bytes of stack that are enough for sheet_plan_test */
     SHEET_WRITE_READ_STACK = 65536    /* bytes of stack that are enough for sheet_write, and for sheet_read */
 };
@@ -67,8 +68,20 @@ enum {
     SHEET_SHEET_LENGTH = 11,  /* the sheet buffer has another length; 0, 0 */
     SHEET_DATA_LENGTH = 12,   /* the data buffer has another length; 0, 0 */
     SHEET_UNUSED_BIT = 13,    /* an unused bit is 1, of the sheet read or the data written; byte index, 0 */
-    SHEET_NOT_MENDABLE = 14   /* no single burst brings both sums to 0; 0, 0 */
+    SHEET_NOT_MENDABLE = 14,  /* no single burst brings both sums to 0; 0, 0 */
+    SHEET_PLAN_POLYNOMIAL = 15, /* a polynomial has constant term 0, or a coefficient at or above its degree; 0, 0 */
+    SHEET_PLAN_FEW_CELLS = 16 /* fewer than rv + rh check cells could be taken; 0, 0 */
 };
+
+/*
+ * Makes a plan from its sizes and two binary polynomials: checks 2, 3, 4, 5, 15, 8, 9 and 16 in this order, then every
+ * byte of the plan, whatever it held. Takes any numbers. A made plan is accepted.
+ * The polynomial of V is z^rv plus the powers below it that v_low tells, bit i for z^i; that of H likewise, by rh and
+ * h_low. Entry k of a table is z^k modulo its polynomial. Check cells are taken in sheet order, each if its joint entry
+ * is no exclusive-or of those taken. plan_len is sheet_plan_bytes, and check 5 is about nothing else.
+ */
+uint64_t sheet_plan_make(uint32_t n1, uint32_t n2, uint32_t b1, uint32_t b2, uint32_t rv, uint32_t v_low, uint32_t rh,
+                         uint32_t h_low, uint8_t *plan, size_t plan_len);
 
 /*
  * Tests a plan: checks 1 to 10 in order.
@@ -100,6 +113,15 @@ static inline unsigned sheet_answer_top(uint64_t answer) { return (unsigned)((an
 static inline unsigned sheet_answer_left(uint64_t answer) { return (unsigned)((answer >> 47) & 1023u); }
 static inline unsigned sheet_answer_height(uint64_t answer) { return (unsigned)((answer >> 57) & 7u); }
 static inline unsigned sheet_answer_width(uint64_t answer) { return (unsigned)((answer >> 60) & 7u); }
+
+/*
+ * The bytes of a plan of these sizes: the length that sheet_plan_make asks for. Any numbers may be handed in: for
+ * absurd ones it wraps, and the call then answers 2, 3 or 4 whatever the length.
+ */
+static inline size_t sheet_plan_bytes(uint32_t n1, uint32_t n2, uint32_t b1, uint32_t b2, uint32_t rv, uint32_t rh) {
+    size_t entries = (size_t)n1 * b2 + (size_t)n2 * b1;
+    return SHEET_PLAN_HEADER_BYTES + 4 * (entries + rv + rh);
+}
 
 /* A 16-bit number of a plan's header, 0 where the plan has none. */
 static inline size_t sheet_plan_field(const uint8_t *plan, size_t plan_len, size_t at) {

@@ -14,6 +14,9 @@ pub struct Answer {
     pub width: u64,
 }
 
+/// The places of a failure, if there is one.
+pub type Places = Option<(usize, usize)>;
+
 /// How many bits each field has, in the same order.
 const BITS: [u32; 8] = [5, 16, 12, 5, 9, 10, 3, 3];
 
@@ -21,6 +24,23 @@ impl Answer {
     /// Check `number` failed at the places p and q.
     pub fn refusal(number: u64, p: usize, q: usize) -> Answer {
         Answer { number, p: p as u64, q: q as u64, ..Answer::default() }
+    }
+
+    /// The refusal of a check that tells no places, if it fails.
+    pub fn refuse_if(fails: bool, number: u64) -> Result<(), Answer> {
+        if fails {
+            Err(Answer::refusal(number, 0, 0))
+        } else {
+            Ok(())
+        }
+    }
+
+    /// The refusal of a check that fails at these places, if there are any.
+    pub fn refuse_at(places: Places, number: u64) -> Result<(), Answer> {
+        match places {
+            Some((p, q)) => Err(Answer::refusal(number, p, q)),
+            None => Ok(()),
+        }
     }
 
     pub fn is_refusal(self) -> bool {

@@ -2,8 +2,11 @@
 
 use crate::answer::Answer;
 use crate::ffi::Library;
-use crate::model;
+use crate::given::Given;
+use crate::model::{self, Cell};
 use crate::plan::Plan;
+use crate::rng::Rng;
+use crate::scans::{random_burst, random_data, turned};
 
 /// The library's answer to a plan, which must be the model's.
 pub fn plan_test(library: &mut Library, bytes: &[u8]) -> u64 {
@@ -14,4 +17,104 @@ pub fn plan_test(library: &mut Library, bytes: &[u8]) -> u64 {
         panic!("library {told:?}, model {expected:?}, plan {:?}", Plan::parse(bytes));
     }
     answer
+}
+
+/// The packed answer of a making.
+pub fn told(outcome: &Result<Plan, Answer>) -> u64 {
+    outcome.as_ref().err().map_or(0, |refusal| refusal.pack())
+}
+
+/// The library, and a generator for what the buffers hold before a call.
+pub struct Harness {
+    pub library: Library,
+    pub rng: Rng,
+}
+
+impl Harness {
+    pub fn new(seed: u64) -> Harness {
+        Harness { library: Library::new(seed), rng: Rng::new(!seed) }
+    }
+
+    /// Make a plan by the library in a buffer of this length. Answer and every byte must be the
+    /// model's, and a plan that is made must serve.
+    pub fn make(&mut self, given: &Given, len: usize) -> Result<Plan, Answer> {
+        let held = self.rng.bytes(len);
+        let (mut expected, mut plan) = (held.clone(), held);
+        let answer = Answer::unpack(self.library.plan_make(given, &mut plan));
+        let told = model::make(given, &mut expected);
+        assert_eq!(answer, told, "library on the left, model on the right: {given:?} in {len}");
+        assert!(plan == expected, "the plan's bytes differ from the model's: {given:?}");
+        if answer.is_refusal() {
+            return Err(answer);
+        }
+        Ok(self.serves(&plan))
+    }
+
+    /// The same in a buffer of the right length.
+    pub fn make_in_its_length(&mut self, given: &Given) -> Result<Plan, Answer> {
+        self.make(given, given.plan_len())
+    }
+
+    /// The library accepts the plan, writes a sheet under it, and mends a burst on that.
+    fn serves(&mut self, bytes: &[u8]) -> Plan {
+        assert_eq!(self.library.plan_test(bytes), 0);
+        let plan = Plan::parse(bytes).expect("the plan test has accepted it");
+        let written = self.written(plan);
+        let burst = random_burst(&written.plan, &mut self.rng);
+        self.mends(&written, &burst);
+        written.plan
+    }
+
+    /// Write by the library. Answer and sheet must be the model's.
+    pub fn write(&mut self, plan: &[u8], data: &[u8], sheet_len: usize) -> u64 {
+        let held = self.rng.bytes(sheet_len);
+        let (mut expected, mut sheet) = (held.clone(), held);
+        let answer = self.library.write(plan, data, &mut sheet);
+        let told = model::write(plan, data, &mut expected);
+        assert_eq!(answer, told.pack(), "library {:?}, model {told:?}", Answer::unpack(answer));
+        assert!(sheet == expected, "the written sheet differs from the model's");
+        answer
+    }
+
+    /// Read by the library. Answer, sheet and data must be the model's.
+    pub fn read(&mut self, plan: &[u8], scan: &[u8], data_len: usize) -> u64 {
+        let held = self.rng.bytes(data_len);
+        let (mut expected, mut expected_data) = (scan.to_vec(), held.clone());
+        let (mut sheet, mut data) = (scan.to_vec(), held);
+        let answer = self.library.read(plan, &mut sheet, &mut data);
+        let told = model::read(plan, &mut expected, &mut expected_data);
+        assert_eq!(answer, told.pack(), "library {:?}, model {told:?}", Answer::unpack(answer));
+        assert!(sheet == expected, "the sheet differs from the model's");
+        assert!(data == expected_data, "the data differs from the model's");
+        answer
+    }
+
+    /// A sheet that the library wrote from random data, compared with the model's.
+    pub fn written(&mut self, plan: Plan) -> Written {
+        let bytes = plan.encode();
+        let data = random_data(&plan, &mut self.rng);
+        assert_eq!(self.write(&bytes, &data, plan.sheet_len()), 0);
+        let sheet = model::write_sheet(&plan, &data);
+        Written { plan, bytes, data, sheet }
+    }
+
+    /// Demand 3: from the written sheet with a burst on it, the library gives back every byte of
+    /// the sheet, the data, the number of cells and the smallest rectangle that holds them.
+    pub fn mends(&mut self, written: &Written, burst: &[Cell]) {
+        let Written { plan, bytes, data, sheet } = written;
+        let mut scan = turned(plan, sheet, burst);
+        let mut text = self.rng.bytes(data.len());
+        let answer = self.library.read(bytes, &mut scan, &mut text);
+        assert_eq!(answer, model::smallest_rectangle(burst).pack(), "{burst:?} under {plan:?}");
+        assert!(scan == *sheet, "{burst:?} left a trace under {plan:?}");
+        assert!(text == *data, "{burst:?} spoilt the data under {plan:?}");
+    }
+}
+
+/// A plan, data, and the written sheet.
+pub struct Written {
+    pub plan: Plan,
+    pub bytes: Vec<u8>,
+    pub data: Vec<u8>,
+    pub sheet: Vec<u8>,
 }

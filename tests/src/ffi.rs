@@ -3,13 +3,14 @@
 use std::ptr;
 
 use crate::answer::Answer;
+use crate::given::Given;
 use crate::rng::Rng;
 
 type PlanTest = unsafe extern "C" fn(*const u8, usize) -> u64;
 type Write = unsafe extern "C" fn(*const u8, usize, *const u8, usize, *mut u8, usize) -> u64;
 type Read = unsafe extern "C" fn(*const u8, usize, *mut u8, usize, *mut u8, usize) -> u64;
 
-/// The three calls of an archive, bare.
+/// The calls of an archive that have been there from the first on, bare.
 #[derive(Clone, Copy)]
 pub struct Archive {
     plan_test: PlanTest,
@@ -19,7 +20,7 @@ pub struct Archive {
     null: bool,
 }
 
-/// Names the three symbols of an archive.
+/// Names the symbols of an archive.
 macro_rules! archive {
     ($(#[$about:meta])* $name:ident: $plan_test:ident, $write:ident, $read:ident) => {
         extern "C" {
@@ -95,6 +96,23 @@ impl Archive {
     }
 }
 
+/// The maker of plans of the archive under test, bare, or with null for a buffer of length 0. It is no
+/// part of `Archive`, since the archive of an earlier commit may have none.
+#[rustfmt::skip]
+pub fn plan_make(given: &Given, plan: &mut [u8], null: bool) -> u64 {
+    extern "C" {
+        fn sheet_plan_make(
+            n1: u32, n2: u32, b1: u32, b2: u32,
+            rv: u32, v_low: u32, rh: u32, h_low: u32,
+            plan: *mut u8, plan_len: usize,
+        ) -> u64;
+    }
+    let Given { n1, n2, b1, b2, rv, v_low, rh, h_low } = *given;
+    let at = if null && plan.is_empty() { ptr::null_mut() } else { plan.as_mut_ptr() };
+    // SAFETY: a mutable slice is writable for its length; where that is 0, any pointer may be given.
+    unsafe { sheet_plan_make(n1, n2, b1, b2, rv, v_low, rh, h_low, at, plan.len()) }
+}
+
 /// The calls on guarded buffers: each buffer lies amid random bytes at a random alignment, and
 /// after the call no byte may have changed but those that the call may write. An empty buffer is
 /// handed over as null in about half of the calls.
@@ -114,6 +132,14 @@ impl Library {
         } else {
             SHEET
         }
+    }
+
+    pub fn plan_make(&mut self, given: &Given, plan: &mut [u8]) -> u64 {
+        let mut target = Guarded::new("plan", plan, &mut self.rng);
+        let null = self.rng.one_in(2);
+        let answer = plan_make(given, target.content_mut(), null);
+        target.hand_back(answer, plan);
+        answer
     }
 
     pub fn plan_test(&mut self, plan: &[u8]) -> u64 {

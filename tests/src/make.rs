@@ -13,19 +13,24 @@ pub struct Polynomial {
 
 /// Bursts of one cell ask only that entries differ, and the powers of z modulo this polynomial do so
 /// up to the 1023rd.
-const SINGLE: Polynomial = Polynomial { degree: 10, low: 0x9 };
+pub const SINGLE: Polynomial = Polynomial { degree: 10, low: 0x9 };
 
 /// Tables of powers for 3 × 3 bursts on 512 rows and 698 columns. Of all polynomials with constant
 /// term 1, none of smaller degree serves, and none of this degree with a smaller `low` (bin
 /// find_tables tries them in this order).
-const V_3X3: Polynomial = Polynomial { degree: 22, low: 0x3_9f0d };
-const H_3X3: Polynomial = Polynomial { degree: 14, low: 0x8f7 };
+pub const V_3X3: Polynomial = Polynomial { degree: 22, low: 0x3_9f0d };
+pub const H_3X3: Polynomial = Polynomial { degree: 14, low: 0x8f7 };
 
 /// The same for 4 × 4 bursts on 698 columns.
-const H_4X4: Polynomial = Polynomial { degree: 21, low: 0x3a09 };
+pub const H_4X4: Polynomial = Polynomial { degree: 21, low: 0x3a09 };
 
 /// A polynomial of degree 32 that serves for 3 × 3 bursts in both tables: that of CRC-32.
-const WIDE: Polynomial = Polynomial { degree: 32, low: 0x04c1_1db7 };
+pub const WIDE: Polynomial = Polynomial { degree: 32, low: 0x04c1_1db7 };
+
+/// Two whose tables pass all pairs for 3 × 3 bursts at full size. Each has an even number of terms, so
+/// that together they leave too few check cells.
+pub const V_EVEN: Polynomial = Polynomial { degree: 24, low: 0x30_99fd };
+pub const H_EVEN: Polynomial = Polynomial { degree: 16, low: 0xd707 };
 
 /// For 4 × 4 bursts two windows that do not overlap fill all of rv = 32, and powers of z serve for
 /// a few dozen rows at best. With `field_rows` this ratio serves for 219 rows, more than any
@@ -188,7 +193,7 @@ pub fn accepted(rng: &mut Rng, b1: usize, b2: usize, more: usize) -> Plan {
 }
 
 /// Sizes under which a plan can be accepted, tables and check list left empty.
-fn random_shape(rng: &mut Rng, b1: usize, b2: usize, more: usize) -> Option<Plan> {
+pub fn random_shape(rng: &mut Rng, b1: usize, b2: usize, more: usize) -> Option<Plan> {
     let mut size = |b: usize| if rng.one_in(6) { b } else { rng.within(b, b + more) };
     let (n1, n2) = (size(b1), size(b2));
     let (least_rv, least_rh) = least_widths(n1, n2, b1, b2);

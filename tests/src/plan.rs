@@ -57,6 +57,16 @@ pub fn set_header_field(bytes: &mut [u8], field: usize, value: u16) {
 }
 
 impl Plan {
+    /// Checks 2, 3 and 4, which are about the sizes alone.
+    pub fn check_sizes(&self) -> Result<(), Answer> {
+        let burst_good = [self.b1, self.b2].iter().all(|b| (1..=4).contains(b));
+        let size_good = (self.b1..=512).contains(&self.n1) && (self.b2..=698).contains(&self.n2);
+        let width_good = [self.rv, self.rh].iter().all(|r| (1..=32).contains(r));
+        Answer::refuse_if(!burst_good, 2)?;
+        Answer::refuse_if(!size_good, 3)?;
+        Answer::refuse_if(!width_good, 4)
+    }
+
     /// The offsets of the two tables and of the check list, and the length, as the rule gives them.
     pub fn layout(&self) -> [usize; 4] {
         let v = HEADER_LEN;
@@ -79,14 +89,7 @@ impl Plan {
 
     /// The plan in these bytes, or the refusal of the first of checks 1 to 5 that fails.
     pub fn parse(bytes: &[u8]) -> Result<Plan, Answer> {
-        let refuse_if = |fails: bool, number: u64| {
-            if fails {
-                Err(Answer::refusal(number, 0, 0))
-            } else {
-                Ok(())
-            }
-        };
-        refuse_if(bytes.len() < HEADER_LEN, 1)?;
+        Answer::refuse_if(bytes.len() < HEADER_LEN, 1)?;
         let field = |place| usize::from(header_field(bytes, place));
         let mut plan = Plan {
             n1: field(field::N1),
@@ -99,14 +102,11 @@ impl Plan {
             h: Vec::new(),
             checks: Vec::new(),
         };
-        refuse_if(![plan.b1, plan.b2].iter().all(|b| (1..=4).contains(b)), 2)?;
-        let size_good = (plan.b1..=512).contains(&plan.n1) && (plan.b2..=698).contains(&plan.n2);
-        refuse_if(!size_good, 3)?;
-        refuse_if(![plan.rv, plan.rh].iter().all(|r| (1..=32).contains(r)), 4)?;
+        plan.check_sizes()?;
         let layout = plan.layout();
         let told =
             [field::V_OFFSET, field::H_OFFSET, field::CHECK_OFFSET, field::LENGTH].map(field);
-        refuse_if(told != layout || bytes.len() != layout[3], 5)?;
+        Answer::refuse_if(told != layout || bytes.len() != layout[3], 5)?;
 
         let [v, h, checks, end] = layout;
         plan.v = (v..h).step_by(4).map(|at| number32(bytes, at)).collect();

@@ -5,11 +5,16 @@ use std::ops::RangeInclusive;
 use crate::answer::Answer;
 
 #[derive(Default)]
-pub struct Tally([u64; 15]);
+pub struct Tally([u64; 17]);
 
 impl Tally {
     pub fn count(&mut self, packed: u64) {
         self.0[Answer::unpack(packed).number as usize] += 1;
+    }
+
+    /// How often this number was met.
+    pub fn met(&self, number: usize) -> u64 {
+        self.0[number]
     }
 
     /// Print the counts, and fail if a number of one of these ranges was met less often than told.

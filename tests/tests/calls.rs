@@ -2,79 +2,15 @@
 
 use sheet_tests::answer::Answer;
 use sheet_tests::cases::{plan_s, plan_t, read_cases, write_cases};
+use sheet_tests::compared::{Harness, Written};
 use sheet_tests::damage::damaged;
 use sheet_tests::ffi::Library;
 use sheet_tests::make::{accepted, burst_sizes, largest_4x4, powers_1x1, powers_3x3, CellOrder};
-use sheet_tests::model::{self, Cell};
+use sheet_tests::model;
 use sheet_tests::plan::Plan;
 use sheet_tests::rng::Rng;
-use sheet_tests::scans::{burst, random_burst, random_data, random_sheet, turned};
+use sheet_tests::scans::{burst, random_burst, random_sheet, turned};
 use sheet_tests::tally::Tally;
-
-/// The library, and a generator for what the buffers hold before a call.
-struct Harness {
-    library: Library,
-    rng: Rng,
-}
-
-impl Harness {
-    fn new(seed: u64) -> Harness {
-        Harness { library: Library::new(seed), rng: Rng::new(!seed) }
-    }
-
-    /// Write by the library. Answer and sheet must be the model's.
-    fn write(&mut self, plan: &[u8], data: &[u8], sheet_len: usize) -> u64 {
-        let held = self.rng.bytes(sheet_len);
-        let (mut expected, mut sheet) = (held.clone(), held);
-        let answer = self.library.write(plan, data, &mut sheet);
-        let told = model::write(plan, data, &mut expected);
-        assert_eq!(answer, told.pack(), "library {:?}, model {told:?}", Answer::unpack(answer));
-        assert!(sheet == expected, "the written sheet differs from the model's");
-        answer
-    }
-
-    /// Read by the library. Answer, sheet and data must be the model's.
-    fn read(&mut self, plan: &[u8], scan: &[u8], data_len: usize) -> u64 {
-        let held = self.rng.bytes(data_len);
-        let (mut expected, mut expected_data) = (scan.to_vec(), held.clone());
-        let (mut sheet, mut data) = (scan.to_vec(), held);
-        let answer = self.library.read(plan, &mut sheet, &mut data);
-        let told = model::read(plan, &mut expected, &mut expected_data);
-        assert_eq!(answer, told.pack(), "library {:?}, model {told:?}", Answer::unpack(answer));
-        assert!(sheet == expected, "the sheet differs from the model's");
-        assert!(data == expected_data, "the data differs from the model's");
-        answer
-    }
-
-    /// A sheet that the library wrote from random data, compared with the model's.
-    fn written(&mut self, plan: Plan) -> Written {
-        let bytes = plan.encode();
-        let data = random_data(&plan, &mut self.rng);
-        assert_eq!(self.write(&bytes, &data, plan.sheet_len()), 0);
-        let sheet = model::write_sheet(&plan, &data);
-        Written { plan, bytes, data, sheet }
-    }
-
-    /// Demand 3: from the written sheet with a burst on it, the library gives back every byte of
-    /// the sheet, the data, the number of cells and the smallest rectangle that holds them.
-    fn mends(&mut self, written: &Written, burst: &[Cell]) {
-        let Written { plan, bytes, data, sheet } = written;
-        let mut scan = turned(plan, sheet, burst);
-        let mut text = self.rng.bytes(data.len());
-        let answer = self.library.read(bytes, &mut scan, &mut text);
-        assert_eq!(answer, model::smallest_rectangle(burst).pack(), "{burst:?} under {plan:?}");
-        assert!(scan == *sheet, "{burst:?} left a trace under {plan:?}");
-        assert!(text == *data, "{burst:?} spoilt the data under {plan:?}");
-    }
-}
-
-/// A plan, data, and the written sheet.
-struct Written {
-    plan: Plan,
-    bytes: Vec<u8>,
-    data: Vec<u8>,
-    sheet: Vec<u8>,
-}
 
 /// Cases 2 to 7 of 01.
 #[test]

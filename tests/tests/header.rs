@@ -5,13 +5,23 @@ use std::thread;
 
 use sheet_tests::answer::Answer;
 use sheet_tests::cases::{plan_s, plan_t};
-use sheet_tests::ffi::SHEET;
+use sheet_tests::ffi::{plan_make, SHEET};
+use sheet_tests::given::Given;
 use sheet_tests::header::constant;
-use sheet_tests::make::{largest_4x4, no_data, powers_1x1, powers_3x3, CellOrder};
+use sheet_tests::make::{
+    largest_4x4, no_data, powers_1x1, powers_3x3, CellOrder, H_3X3, H_4X4, H_EVEN, SINGLE, V_3X3,
+    V_EVEN, WIDE,
+};
 use sheet_tests::model;
 use sheet_tests::plan::{Plan, HEADER_LEN};
 use sheet_tests::rng::Rng;
 use sheet_tests::scans::{burst, random_data, turned};
+
+/// The numbers of the checks that the maker brings.
+#[test]
+fn numbers_of_the_maker() {
+    assert_eq!([constant("SHEET_PLAN_POLYNOMIAL"), constant("SHEET_PLAN_FEW_CELLS")], [15, 16]);
+}
 
 #[test]
 fn length_of_a_plans_header() {
@@ -32,6 +42,32 @@ fn large_plans(rng: &mut Rng) -> [Plan; 3] {
         powers_3x3(512, 698, CellOrder::Sheet, rng),
         largest_4x4(CellOrder::Sheet, rng),
     ]
+}
+
+/// Full size, with all numbers that come after the tables: made, 8, 9 and 16.
+#[test]
+fn stack_of_making() {
+    let enough = constant("SHEET_PLAN_MAKE_STACK");
+    for (given, number) in [
+        (Given::new([512, 698, 1, 1], SINGLE, SINGLE), 0),
+        (Given::new([512, 698, 3, 3], V_3X3, H_3X3), 0),
+        (Given::new([512, 698, 3, 3], WIDE, WIDE), 0),
+        (Given::new([8, 698, 4, 4], WIDE, H_4X4), 0),
+        (Given::new([512, 698, 4, 4], WIDE, H_4X4), 8),
+        (Given::new([8, 698, 4, 4], WIDE, H_3X3), 9),
+        (Given::new([512, 698, 3, 3], V_EVEN, H_EVEN), 16),
+    ] {
+        let len = given.plan_len();
+        let (mut plan, mut expected) = (vec![0xff; len], vec![0xff; len]);
+        let told = model::make(&given, &mut expected);
+        assert_eq!(told.number, number, "{given:?}");
+        let (answer, plan) = with_stack(enough, move || {
+            let answer = plan_make(&given, &mut plan, false);
+            (answer, plan)
+        });
+        assert_eq!(Answer::unpack(answer), told, "{given:?}");
+        assert!(plan == expected, "{given:?}");
+    }
 }
 
 #[test]
@@ -103,5 +139,15 @@ fn null_where_the_length_is_0() {
         }
     }
     assert!(taken > 0, "a call with null data succeeds where there is no data");
+    let given = Given::new([512, 698, 3, 3], V_3X3, H_3X3);
+    for (given, number) in [
+        (given, 5),
+        (Given { b1: 0, ..given }, 2),
+        (Given { n1: 0, ..given }, 3),
+        (Given { rv: 0, ..given }, 4),
+        (Given { v_low: 0, ..given }, 5),
+    ] {
+        assert_eq!(plan_make(&given, &mut [], true), number);
+    }
     assert_eq!(Answer::unpack(null.plan_test(&[])), Answer::refusal(1, 0, 0));
 }

@@ -6,9 +6,11 @@ use std::collections::BTreeSet;
 use sheet_tests::answer::Answer;
 use sheet_tests::cases::{plan_cases, plan_s, plan_t, read_cases, write_cases};
 use sheet_tests::damage::damaged;
+use sheet_tests::given::{altered, random_given, Given};
 use sheet_tests::line::{line, INPUT_LIMIT};
 use sheet_tests::make::{
-    accepted, burst_sizes, largest_4x4, no_data, powers_3x3, reversed_3x3, CellOrder,
+    accepted, burst_sizes, largest_4x4, no_data, powers, powers_3x3, reversed_3x3, CellOrder,
+    Polynomial, H_3X3, V_3X3,
 };
 use sheet_tests::model;
 use sheet_tests::plan::Plan;
@@ -241,6 +243,58 @@ fn yardsticks_agree() {
             }
         }
     }
+}
+
+/// z^k by long division is what shifting and reducing give, with any coefficients.
+#[test]
+fn powers_by_division() {
+    let mut rng = Rng::new(11);
+    for degree in 1..=32 {
+        for _ in 0..20 {
+            let low = rng.bits(degree);
+            let by_division = (0..150).map(|k| model::power(k, degree, low));
+            assert!(by_division.eq(powers(150, Polynomial { degree, low })), "{degree}, {low:#x}");
+        }
+    }
+}
+
+/// A made plan is accepted, and the Rust that the library is timed against makes the same plans and
+/// gives the same answers.
+#[test]
+fn made_plans() {
+    let mut rng = Rng::new(12);
+    let (mut made, mut refused) = (0, 0);
+    for (b1, b2) in burst_sizes() {
+        for round in 0..200 {
+            let good = random_given(&mut rng, b1, b2);
+            let mut plan = rng.bytes(good.plan_len());
+            let given = if round % 2 == 0 { good } else { altered(&good, &mut rng) };
+            let held = plan.clone();
+            let answer = model::make(&given, &mut plan);
+            for make in [yardstick::plain_plan_make, yardstick::one_row_plan_make] {
+                let mut other = held.clone();
+                assert_eq!(make(&given, &mut other), answer.pack(), "{given:?}");
+                assert!(other == plan, "{given:?}");
+            }
+            if answer.is_refusal() {
+                refused += 1;
+                assert!(plan == held);
+            } else {
+                made += 1;
+                assert_eq!(model::test_plan(&plan), Answer::default(), "{given:?}");
+            }
+        }
+    }
+    println!("{made} plans made, {refused} refused");
+    assert!(made > 400 && refused > 400);
+}
+
+/// The plan of full size from its two polynomials.
+#[test]
+fn full_size_plan_is_made() {
+    let expected = powers_3x3(512, 698, CellOrder::Sheet, &mut Rng::new(13));
+    let given = Given::new([512, 698, 3, 3], V_3X3, H_3X3);
+    assert_eq!(model::made_plan(&given, given.plan_len()), Ok(expected));
 }
 
 #[test]

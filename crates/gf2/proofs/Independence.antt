@@ -3,6 +3,7 @@
 --   spanned-chosen    a spanned number is the sum of a choice of members
 --   chosen-spanned    the sum of a choice of members is spanned
 --   free-independent, independent-free    `free` is independence
+--   independent-equal   equal values are independent together
 --
 -- Assumes nothing.
 use mathlib.Core.Path.{_≡_, refl, sym, ap, ap₂, _∙_}
@@ -135,3 +136,8 @@ independent-free (suc n) member f h =
         never (placed (c .0) n true n) (placed-at (c .0) n true)
         (h (placed (c .0) n true) (placed-within (c .0) member n true (c .1) (λ r. q .0))
         (placed-sum n (c .0) true f ∙ ap₂ _⊕_ (c .2) (pick-true (f n)) ∙ xor-self (f n)) n (lt-suc-self n))
+
+-- equal values are independent together
+pub independent-equal : (n : ℕ) (member : ℕ → Bool) (f g : ℕ → ℕ) → ((k : ℕ) → k < n → f k ≡ g k) → Independent n member f → Independent n member g
+independent-equal n member f g e I m within z =
+    I m within (sum-equal n (λ k. pick (m k) (f k)) (λ k. pick (m k) (g k)) (λ k l. ap (pick (m k)) (e k l)) ∙ z)

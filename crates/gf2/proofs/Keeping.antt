@@ -34,7 +34,7 @@ pub keeping-start : (ms : List ℕ) → Keeping ms [] 0
 unfolding kept
 keeping-start ms = record { words = refl; count = omega arith }
 
-kept-last : (ms ws : List ℕ) (m : ℕ) → kept ws (ms ++ (m ∷ [])) ≡ kept ws ms ++ (swept (kept ws ms) m ∷ [])
+pub kept-last : (ms ws : List ℕ) (m : ℕ) → kept ws (ms ++ (m ∷ [])) ≡ kept ws ms ++ (swept (kept ws ms) m ∷ [])
 unfolding kept
 kept-last [] ws m = refl
 kept-last (a ∷ ms) ws m = kept-last ms (ws ++ (swept ws a ∷ [])) m

@@ -18,3 +18,4 @@ pub mod Solving
 pub mod Swept
 pub mod Keeping
 pub mod Multiplication
+pub mod Taking

@@ -4,12 +4,15 @@
 --   Stepped p ws      each word of ws is z times the one before, and p has constant term 1
 --   break-le          a break is not past the last word
 --   powers-stepped    what is recognised is so
+--   Degree d p        the polynomial p has degree d
+--   polynomial-degree, times-below, power-below   z times a number of d digits, and each power of z, has d digits
 --
 -- Assumes nothing.
 use mathlib.Core.Path.{_≡_, sym, ap, _∙_}
 use mathlib.Core.Bool.{Bool, true, false, _||_, not, or-false}
 use mathlib.Core.List.{List}
-use Prim.Native.Nat.{ℕ, suc, _+_, _-_, _*_, _%_, _^_, _≤_, _<_}
+use Prim.Native.Nat.{ℕ, zero, suc, _+_, _-_, _*_, _%_, _^_, _≤_, _<_, min}
+use native.Mathlib.Decide.{decLe}
 use native.Mathlib.Numerals.{add-one}
 use native.Mathlib.Omega.{arith}
 use borrow.Author.Tests.{eqb-true, eq-eqb, ne-eqb, leb-true, not-false}
@@ -17,13 +20,15 @@ use lib.Bits as bits
 use lib.Bits.{bitXor}
 use lib.Dec.{eqb, leb}
 use lib.ListN.{length, getD}
+use lib.Pow.{pow-mono}
 use Rattle.finite.proofs.Search.{least-le, least-first}
 use Rattle.finite.proofs.Truth.{both, same-truth}
 use Rattle.gf2.specs.Xor.{_⊕_}
-use Rattle.gf2.specs.Powers.{timesZ, breaksAt, firstBreak, modulusOf, arePowers}
+use Rattle.gf2.specs.Powers.{timesZ, polynomial, power, breaksAt, firstBreak, modulusOf, arePowers}
 use Rattle.gf2.proofs.Xor.{xor-cancel}
 use Rattle.gf2.proofs.Linear.{Linear}
 use Rattle.gf2.proofs.Swept.{min-xor, min-zero}
+use Rattle.gf2.proofs.Triangle.{pow-double, xor-clears}
 
 -- twice an exclusive-or
 twice-xor : (x y : ℕ) → 2 * (x ⊕ y) ≡ 2 * x ⊕ 2 * y
@@ -73,3 +78,25 @@ powers-stepped ws e =
         let x = timesZ (modulusOf ws) (getD ws k 0) in
         let e : not (eqb x (getD ws (k + 1) 0)) ≡ false = unfold breaksAt in h in
         sym (eqb-true x (getD ws (suc k) 0) (rw (add-one k) at (not-false (eqb x (getD ws (k + 1) 0)) e)))
+
+-- a polynomial of degree d
+pub record Degree (d p : ℕ) : Type 0 where
+  pub least : 2 ^ d ≤ p
+  pub below : p < 2 ^ suc d
+
+pub polynomial-degree : (d low : ℕ) → low < 2 ^ d → Degree d (polynomial d low)
+unfolding polynomial
+polynomial-degree d low l = record { least = omega arith; below = omega (arith, pow-double d) }
+
+pub times-below : (d p x : ℕ) → Degree d p → x < 2 ^ d → timesZ p x < 2 ^ d
+unfolding timesZ
+times-below d p x D l = go (decLe (2 ^ d) (2 * x))
+  where
+    go : Dec (2 ^ d ≤ 2 * x) → min (2 * x) (2 * x ⊕ p) < 2 ^ d
+    go (yes m) = let u = xor-clears d (2 * x) p m (omega (arith, pow-double d)) (D .least) (D .below) in omega arith
+    go (no m) = omega arith
+
+pub power-below : (d p : ℕ) → 1 ≤ d → Degree d p → (k : ℕ) → power p k < 2 ^ d
+unfolding power
+power-below d p l D zero = pow-mono l
+power-below d p l D (suc k) = times-below d p (power p k) D (power-below d p l D k)

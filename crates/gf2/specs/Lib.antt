@@ -7,3 +7,4 @@ pub mod Basis
 pub mod Solver
 pub mod Swept
 pub mod Powers
+pub mod Taking

@@ -2,11 +2,15 @@
 -- that polynomial"). A polynomial is a number, digit i for the power i.
 --
 --   timesZ p x          z times x modulo p: twice x, with p taken off where that makes it smaller
+--   polynomial d low    the polynomial of degree d whose coefficients below that are the digits of low
+--   power p k           z to the power k modulo p
+--   PowersIn p n ws vs  the words vs are as many as ws, and the first n of them are the powers of z from 1 on
 --   firstBreak p ws     the first place k after which word k + 1 is not z times word k, or the place of the last word
 --   modulusOf ws        a polynomial by which ws may be powers: what is taken off after the first break in doubling; 1 where there is none
 --   arePowers ws        that polynomial has constant term 1, and each word is z times the one before
 --   Digits32 ws         the words have at most 32 digits
-use Prim.Native.Nat.{ℕ, _+_, _-_, _*_, _%_, _<_, min}
+use Prim.Native.Nat.{ℕ, zero, suc, _+_, _-_, _*_, _%_, _^_, _<_, min}
+use mathlib.Core.Path.{_≡_}
 use mathlib.Core.Bool.{Bool, _&&_, not, cond}
 use mathlib.Core.List.{List}
 use lib.Dec.{eqb, leb}
@@ -16,6 +20,17 @@ use Rattle.gf2.specs.Xor.{_⊕_}
 
 unfoldable pub timesZ : ℕ → ℕ → ℕ
 timesZ p x = min (2 * x) (2 * x ⊕ p)
+
+unfoldable pub polynomial : ℕ → ℕ → ℕ
+polynomial d low = 2 ^ d + low
+
+unfoldable pub power : ℕ → ℕ → ℕ
+power p zero = 1
+power p (suc k) = timesZ p (power p k)
+
+pub record PowersIn (p n : ℕ) (ws vs : List ℕ) : Type 0 where
+  pub size : length vs ≡ length ws
+  pub value : (k : ℕ) → k < n → getD vs k 0 ≡ power p k
 
 -- word k + 1 is not z times word k
 unfoldable pub breaksAt : ℕ → List ℕ → ℕ → Bool

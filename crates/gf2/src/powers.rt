@@ -1,7 +1,8 @@
 // Tables of powers: each word is z times the one before, modulo one polynomial.
 ghost use mathlib.Core.Path.{_≡_};
-ghost use Prim.Native.Nat.{_<_};
-ghost use Rattle.gf2.specs.Powers.{timesZ, firstBreak, modulusOf, arePowers, Digits32};
+ghost use Prim.Native.Nat.{_^_, _≤_, _<_};
+ghost use lib.ListN.{length};
+ghost use Rattle.gf2.specs.Powers.{timesZ, polynomial, PowersIn, firstBreak, modulusOf, arePowers, Digits32};
 use crate::lesser;
 
 // z times x modulo the polynomial p.
@@ -11,6 +12,23 @@ fn times_z(p: u64, x: u64) -> u64
 {
     let twice = 2 * x;
     lesser(twice, twice ^ p)
+}
+
+// The powers of z into the first count words: 1, and then z times the one before, modulo the polynomial of this degree whose
+// coefficients below it are the digits of low.
+pub fn fill_powers(degree: usize, low: u64, count: usize, words: &mut [u64])
+    requires { ⌜ (1 ≤ degree) × (degree ≤ 32) × (low < 2 ^ degree) ⌝ }
+    requires { ⌜ count ≤ length (now words) ⌝ }
+    ensures { λ _. ⌜ PowersIn (polynomial degree low) count (now (words .entry)) (now (words .exit)) ⌝ }
+{
+    let p = (1u64 << degree) + low;
+    let mut x = 1;
+    let mut k = 0;
+    while k < count {
+        words[k] = x;
+        x = times_z(p, x);
+        k += 1;
+    }
 }
 
 // The first place after which a word is not z times the one before, or the place of the last word.

@@ -2,6 +2,7 @@
 --
 --   sizes-small, small-sizes   checks 2 to 4 pass exactly where the header's numbers are in range
 --   position-fits   a cell's entry lies in its table
+--   table-room      either table has room in 2,792 words
 --   framed    where checks 1 to 5 pass, the plan is framed
 --
 -- Assumes nothing.
@@ -17,6 +18,9 @@ use lib.Dec.{eqb, ltb}
 use lib.ListN.{length}
 use Rattle.finite.proofs.Truth.{or-false}
 use Rattle.plan.specs.declared.header.Header.{Header}
+use Rattle.plan.specs.declared.table.Table.{Table}
+use Rattle.plan.specs.declared.table.Table.the-variants.{Rows, Columns}
+use Rattle.plan.specs.Table.{entriesOf}
 use Rattle.plan.specs.Verdict.{accepted, verdictIf, refusal}
 use Rattle.plan.specs.Header.{headerLength, headerOf, Small, Framed, columnsStart, checksStart, planLength}
 use Rattle.plan.specs.Form.{badBurst, badSheet, badWidths, badOffsets, sizesVerdict, offsetsVerdict, fieldsVerdict, headerVerdict}
@@ -112,3 +116,8 @@ framed s e =
 -- the position of a cell's entry lies in its table
 pub position-fits : (i j b n : ℕ) → i < n → 1 ≤ b → i * b + j % b < n * b
 position-fits i j b n l p = digits-lt l (mod-lt j p)
+
+-- either table has room in 2,792 words
+pub table-room : (h : Header) (t : Table) → Small h → entriesOf h t ≤ 2792
+table-room h Rows p = omega (arith, p .row-positions)
+table-room h Columns p = p .column-positions

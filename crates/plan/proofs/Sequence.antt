@@ -5,9 +5,11 @@
 --   else-if       a check whose test is false lets the next answer
 --   else-zero     a sequence accepts exactly where both parts do
 --   if-zero       a check accepts exactly where its test is false
+--   else-assoc    checks in a row may be grouped
+--   same-zero, same-other   an answer by another name accepts, or refuses, too
 --
 -- Assumes nothing.
-use mathlib.Core.Path.{_≡_, refl}
+use mathlib.Core.Path.{_≡_, refl, sym, ap, _∙_}
 use mathlib.Core.Bool.{Bool, true, false, cond}
 use Prim.Native.Nat.{ℕ, suc}
 use native.Mathlib.Omega.{arith}
@@ -38,3 +40,18 @@ else-zero v w = go (eqb (v .number) 0) refl
 pub if-zero : (t : Bool) (n p q : ℕ) → verdictIf t (refusal (suc n) p q) .number ≡ 0 → t ≡ false
 if-zero true n p q e = absurd (omega arith)
 if-zero false n p q e = refl
+
+pub same-zero : {v w : Verdict} → v ≡ w → v .number ≡ 0 → w .number ≡ 0
+same-zero e z = ap (λ (x : Verdict). x .number) (sym e) ∙ z
+
+pub same-other : {v w : Verdict} → v ≡ w → (v .number ≡ 0 → ⊥) → w .number ≡ 0 → ⊥
+same-other e n z = n (ap (λ (x : Verdict). x .number) e ∙ z)
+
+-- checks in a row may be grouped
+pub else-assoc : (u v w : Verdict) → ((u orElse v) orElse w) ≡ (u orElse (v orElse w))
+unfolding _orElse_
+else-assoc u v w = go (eqb (u .number) 0) refl
+  where
+    go : (t : Bool) → eqb (u .number) 0 ≡ t → cond (eqb (cond t v u .number) 0) w (cond t v u) ≡ cond t (cond (eqb (v .number) 0) w v) u
+    go true e = refl
+    go false e = rw e

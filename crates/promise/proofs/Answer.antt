@@ -1,19 +1,24 @@
 -- The answers of the calls, taken apart: one declaration for each theorem of specs/Answer.antt, of that type.
 --
---   plan-carries, write-carries, read-carries
+--   plan-carries, make-carries, write-carries, read-carries
 --
 -- Assumes nothing.
 use Rattle.answer.proofs.Fields.{packed-carries}
 use Rattle.accept.specs.Verdict.{planVerdict}
+use Rattle.maker.specs.Make.{make}
 use Rattle.writer.specs.Write.{write}
 use Rattle.reader.specs.Read.{readOutcome}
-use Rattle.sheet.specs.Calls.{verdictFields, reportFields, planAnswer, writeCall, readCall}
-use Rattle.sheet.proofs.Ranges.{plan-range, write-range, read-range}
+use Rattle.sheet.specs.Calls.{verdictFields, reportFields, planAnswer, makeCall, writeCall, readCall}
+use Rattle.sheet.proofs.Ranges.{plan-range, make-range, write-range, read-range}
 use Rattle.promise.specs.Answer as promise
 
 pub plan-carries : promise.PlanCarries
 unfolding planAnswer
 plan-carries plan = packed-carries (verdictFields (planVerdict plan)) (plan-range plan)
+
+pub make-carries : promise.MakeCarries
+unfolding makeCall
+make-carries g plan = packed-carries (verdictFields (make g plan .verdict)) (make-range g plan)
 
 pub write-carries : promise.WriteCarries
 unfolding writeCall

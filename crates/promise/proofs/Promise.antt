@@ -1,7 +1,7 @@
 -- The promise, proved: one declaration for each theorem of specs/Promise.antt, of that type. A written sheet with a burst on
 -- it is fitted by that burst, so it is read back; and from equal sheets the same data is read.
 --
---   plan-test, written-once, leaves, apart, read-back, read-clean, answers, one-burst, reports, turns
+--   plan-test, made-passes, written-once, leaves, apart, read-back, read-clean, answers, one-burst, reports, turns
 --
 -- Assumes nothing.
 use mathlib.Core.Path.{_≡_, refl, sym, ap, ap₂, _∙_}
@@ -23,6 +23,8 @@ use Rattle.plan.specs.Verdict.{accepted}
 use Rattle.plan.specs.Bytes.{codeOf}
 use Rattle.accept.specs.Verdict.{Accepted}
 use Rattle.accept.proofs.Acceptance.{accepted-plan, plan-accepted}
+use Rattle.maker.specs.Make.{make}
+use Rattle.maker.proofs.Accepted.{make-accepted}
 use Rattle.buffers.specs.Buffers.{writeChecks}
 use Rattle.buffers.proofs.Passing.{writes-pass}
 use Rattle.writer.specs.Write.{dataBits, writtenBytes, write}
@@ -35,6 +37,9 @@ use Rattle.promise.proofs.Reading.{taken-as, refused-as, none-or-some}
 
 pub plan-test : promise.PlanTest
 plan-test plan = (accepted-plan plan, λ A. ap (λ (v : Verdict). v .number) (plan-accepted plan A))
+
+pub made-passes : promise.MadePasses
+made-passes g old e = ap (λ (v : Verdict). v .number) (plan-accepted (make g old .plan) (make-accepted g old e))
 
 pub turns : promise.Turns
 turns plan ok sheet = record {

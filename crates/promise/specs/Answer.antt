@@ -2,18 +2,24 @@
 -- The getters are the shifts and masks of docs/ANSWER.md. Each theorem is proved under its name in proofs/Answer.antt.
 --
 --   PlanCarries    the test of a plan: the number and the places of its verdict, and five zeros
+--   MakeCarries    making a plan: likewise
 --   WriteCarries   writing: likewise
 --   ReadCarries    reading: the number, the places and the reader's five numbers
 use Prim.Native.Nat.{ℕ}
 use mathlib.Core.List.{List}
 use Rattle.answer.specs.Answer.{Carries}
 use Rattle.accept.specs.Verdict.{planVerdict}
+use Rattle.maker.specs.declared.parameters.Parameters.{Parameters}
+use Rattle.maker.specs.Make.{make}
 use Rattle.writer.specs.Write.{write}
 use Rattle.reader.specs.Read.{readOutcome}
-use Rattle.sheet.specs.Calls.{verdictFields, reportFields, planAnswer, writeCall, readCall}
+use Rattle.sheet.specs.Calls.{verdictFields, reportFields, planAnswer, makeCall, writeCall, readCall}
 
 abbrev pub PlanCarries : Type 0
 PlanCarries = (plan : List ℕ) → Carries (planAnswer plan) (verdictFields (planVerdict plan))
+
+abbrev pub MakeCarries : Type 0
+MakeCarries = (g : Parameters) (plan : List ℕ) → Carries (makeCall g plan .answer) (verdictFields (make g plan .verdict))
 
 abbrev pub WriteCarries : Type 0
 WriteCarries = (plan bits sheet : List ℕ)

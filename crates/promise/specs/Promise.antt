@@ -15,6 +15,7 @@
 --   readAs                 a read that succeeds: number 0 and places 0, 0, a report, and both buffers after the call
 --
 --   PlanTest               the test gives 0 exactly if the plan meets the rules of form and the three conditions
+--   MadePasses             a made plan is accepted: where making gives 0, so does the test of the bytes that it leaves
 --   WrittenOnce            the written sheet is the one sheet of the right form that belongs and holds the data (Written)
 --   Leaves                 the writer leaves it, whatever the buffer held
 --   Apart                  sheets written from different data, each with a burst on it, are never equal
@@ -38,6 +39,8 @@ use Rattle.boxcode.specs.Reader.{Report, cellCount, reportOf, noReport, LiesIn}
 use Rattle.plan.specs.Verdict.{accepted, refusal}
 use Rattle.plan.specs.Bytes.{codeOf}
 use Rattle.accept.specs.Verdict.{planVerdict, Accepted}
+use Rattle.maker.specs.declared.parameters.Parameters.{Parameters}
+use Rattle.maker.specs.Make.{make}
 use Rattle.mend.specs.Report.{reportAs}
 use Rattle.payload.specs.Packed.{packedData}
 use Rattle.writer.specs.Write.{writtenBytes, write, wrote}
@@ -91,10 +94,14 @@ SomeFits plan sheet = (e : Cells) × BurstOn plan e × FitsOn plan sheet e
 abbrev pub readAs : Report → List ℕ → List ℕ → Outcome
 readAs r sheet bits = record { verdict = accepted; report = reportAs r; sheet = sheet; bits = bits }
 
--- ---- the plan test, and writing
+-- ---- the plan test, making and writing
 
 abbrev pub PlanTest : Type 0
 PlanTest = (plan : List ℕ) → Passes plan ↔ Accepted plan
+
+-- 02, request a: "A made plan is always accepted"; the numbers given and what the buffer held may be any
+abbrev pub MadePasses : Type 0
+MadePasses = (g : Parameters) (old : List ℕ) → make g old .verdict .number ≡ 0 → Passes (make g old .plan)
 
 pub record Written (plan bits : List ℕ) : Type 0 where
   pub form : SheetFor plan (writtenBytes plan bits)

@@ -1,9 +1,9 @@
--- The answers of writing and reading are small: each field fits its bits.
+-- The answers of the calls are small: each field fits its bits.
 --
 --   write-fits    number and places of writing
 --   read-fits     number and places of reading
 --   report-fits   the reader's five numbers
---   plan-range, write-range, read-range   the fields of the answer of each call
+--   plan-range, make-range, write-range, read-range   the fields of the answer of each call
 --
 -- Assumes nothing.
 use mathlib.Core.Path.{_≡_, refl}
@@ -35,6 +35,9 @@ use Rattle.mend.specs.Found.{foundVerdict}
 use Rattle.mend.proofs.First.{first-report}
 use Rattle.reader.proofs.Cases.{zero-reads}
 use Rattle.reader.specs.Read.{burstIn, readVerdict, reportRead, taken, refused, readOutcome}
+use Rattle.maker.specs.declared.parameters.Parameters.{Parameters}
+use Rattle.maker.specs.Make.{make}
+use Rattle.maker.proofs.Range.{make-fits}
 use Rattle.writer.specs.Write.{write}
 use Rattle.answer.specs.Answer.{InRange}
 use Rattle.sheet.specs.Calls.{verdictFields, reportFields}
@@ -151,6 +154,9 @@ fields-range v r f g = record {
 
 pub plan-range : (plan : List ℕ) → InRange (verdictFields (planVerdict plan))
 plan-range plan = fields-range (planVerdict plan) (reportAs noReport) (plan-fits plan) none-fits
+
+pub make-range : (g : Parameters) (plan : List ℕ) → InRange (verdictFields (make g plan .verdict))
+make-range g plan = fields-range (make g plan .verdict) (reportAs noReport) (make-fits g plan) none-fits
 
 pub write-range : (plan bits sheet : List ℕ) → InRange (verdictFields (write plan bits sheet .verdict))
 unfolding write

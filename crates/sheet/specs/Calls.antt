@@ -3,6 +3,8 @@
 --   verdictFields   an answer that has a number and places alone
 --   reportFields    an answer of the reader
 --   planAnswer      the answer of the test of a plan: checks 1 to 10 in order, the first that fails, packed
+--   parameters      the eight numbers that the maker is given: v and h are the coefficients below the degrees rv and rh
+--   MakeReply, makeCall     the answer of making a plan, packed, and every byte of the plan after it
 --   WriteReply, writeCall   the answer of writing, packed, and every byte of the sheet after it
 --   ReadReply, readCall     the answer of reading, packed, and every byte of the sheet and of the data buffer after it
 use Prim.Native.Nat.{ℕ}
@@ -11,6 +13,8 @@ use Rattle.answer.specs.Answer.{Fields, packed}
 use Rattle.plan.specs.declared.verdict.Verdict.{Verdict}
 use Rattle.mend.specs.declared.report.Report.{Report}
 use Rattle.accept.specs.Verdict.{planVerdict}
+use Rattle.maker.specs.declared.parameters.Parameters.{Parameters}
+use Rattle.maker.specs.Make.{make}
 use Rattle.writer.specs.Write.{write}
 use Rattle.reader.specs.Read.{readOutcome}
 
@@ -32,6 +36,18 @@ reportFields v r = record {
 unfoldable pub planAnswer : List ℕ → ℕ
 planAnswer s = packed (verdictFields (planVerdict s))
 
+abbrev pub parameters : (n1 n2 b1 b2 rv v rh h : ℕ) → Parameters
+parameters n1 n2 b1 b2 rv v rh h = record { n1 = n1; n2 = n2; b1 = b1; b2 = b2; rv = rv; vlow = v; rh = rh; hlow = h }
+
+pub record MakeReply : Type 0 where
+  pub answer : ℕ
+  pub plan : List ℕ
+
+unfoldable pub makeCall : Parameters → List ℕ → MakeReply
+makeCall g plan =
+    let o = make g plan in
+    record { answer = packed (verdictFields (o .verdict)); plan = o .plan }
+
 pub record WriteReply : Type 0 where
   pub answer : ℕ
   pub sheet : List ℕ
@@ -52,6 +68,9 @@ readCall plan sheet bits =
     record { answer = packed (reportFields (o .verdict) (o .report)); sheet = o .sheet; bits = o .bits }
 
 -- an answer with the buffers after it
+abbrev pub makeReply : ℕ → List ℕ → MakeReply
+makeReply a s = record { answer = a; plan = s }
+
 abbrev pub writeReply : ℕ → List ℕ → WriteReply
 writeReply a s = record { answer = a; sheet = s }
 

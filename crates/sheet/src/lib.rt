@@ -1,10 +1,12 @@
 // The calls for C (include/sheet.h). Each takes whatever it is handed, and answers one 64-bit number (docs/ANSWER.md).
 // A call that turns something back changes no byte of any buffer. The data buffer is called bits here.
 ghost use mathlib.Core.Path.{_≡_};
-ghost use Rattle.sheet.specs.Calls.{planAnswer, writeReply, writeCall, readReply, readCall};
+ghost use Rattle.sheet.specs.Calls.{planAnswer, parameters, makeReply, makeCall, writeReply, writeCall, readReply, readCall};
 use accept::test::test;
 use answer::Answer;
 use answer::pack;
+use maker::making::make;
+use maker::parameters::Parameters;
 use reader::read::read;
 use writer::writing::write;
 
@@ -19,6 +21,44 @@ pub extern "C" fn sheet_plan_test(plan: &[u8]) -> u64
         number: tested.number,
         p: tested.p,
         q: tested.q,
+        cells: 0,
+        top: 0,
+        left: 0,
+        height: 0,
+        width: 0,
+    })
+}
+
+// Makes a plan from two polynomials, each by its degree and the coefficients below it: every byte of it, whatever the buffer held.
+#[no_mangle]
+pub extern "C" fn sheet_plan_make(
+    n1: u32,
+    n2: u32,
+    b1: u32,
+    b2: u32,
+    rv: u32,
+    v_low: u32,
+    rh: u32,
+    h_low: u32,
+    plan: &mut [u8],
+) -> u64
+    ensures { λ r. ⌜ makeReply r (now (plan .exit)) ≡ makeCall (parameters n1 n2 b1 b2 rv «v_low» rh «h_low») (now (plan .entry)) ⌝ }
+{
+    let given = Parameters {
+        n1: n1 as usize,
+        n2: n2 as usize,
+        b1: b1 as usize,
+        b2: b2 as usize,
+        rv: rv as usize,
+        vlow: v_low as u64,
+        rh: rh as usize,
+        hlow: h_low as u64,
+    };
+    let made = make(given, plan);
+    pack(Answer {
+        number: made.number,
+        p: made.p,
+        q: made.q,
         cells: 0,
         top: 0,
         left: 0,

@@ -10,13 +10,17 @@ use std::cell::RefCell;
 use std::hint::black_box;
 use std::time::Duration;
 
-use sheet_tests::ffi::{Archive, SHEET};
-use sheet_tests::make::{powers_1x1, powers_3x3, reversed_3x3, CellOrder};
+use sheet_tests::ffi::{plan_make, Archive, SHEET};
+use sheet_tests::given::Given;
+use sheet_tests::make::{powers_1x1, powers_3x3, reversed_3x3, CellOrder, H_3X3, V_3X3};
 use sheet_tests::model::write_sheet;
 use sheet_tests::plan::Plan;
 use sheet_tests::rng::Rng;
 use sheet_tests::scans::{burst, random_data, turned};
-use sheet_tests::yardstick::{best_plan_test, plain_plan_test, read_accepted, write_accepted};
+use sheet_tests::yardstick::{
+    best_plan_test, one_row_plan_make, plain_plan_make, plain_plan_test, read_accepted,
+    write_accepted,
+};
 
 const SIZES: [(usize, usize); 3] = [(64, 64), (256, 256), (512, 698)];
 
@@ -60,10 +64,41 @@ fn main() {
     );
     println!("Best Rust: the best scalar Rust that tests all pairs.");
     println!();
+    making();
     plan_test();
     write_and_read();
     #[cfg(feature = "before")]
     before::beside();
+}
+
+type Maker = fn(&Given, &mut [u8]) -> u64;
+
+/// A plan of powers from its two polynomials. One row: plain Rust that tests the pairs with the first
+/// window and the first strip only, which decide for such tables.
+fn making() {
+    println!("Making a plan; medians in microseconds. One row: of pairs, in place of all");
+    println!(
+        "     size   burst   library  plain Rust  one row in Rust  library/plain  library/one row"
+    );
+    let library: Maker = |given, plan| plan_make(given, plan, false);
+    for (n1, n2) in SIZES {
+        let given = Given::new([n1 as u32, n2 as u32, 3, 3], V_3X3, H_3X3);
+        let plans = [(); 3].map(|()| RefCell::new(vec![0; given.plan_len()]));
+        let make = |maker: Maker, plan: &RefCell<Vec<u8>>| {
+            assert_eq!(maker(black_box(&given), &mut plan.borrow_mut()), 0);
+        };
+        let by_library = || make(library, &plans[0]);
+        let by_plain = || make(plain_plan_make, &plans[1]);
+        let by_one_row = || make(one_row_plan_make, &plans[2]);
+        let [library, plain, one_row] = in_turns([&by_library, &by_plain, &by_one_row]).map(median);
+        assert!(plans[0] == plans[1] && plans[0] == plans[2], "the plans differ");
+        println!(
+            "{n1:4} x {n2:<4} 3 x 3 {library:10.1} {plain:11.1} {one_row:16.1} {:14.2} {:16.2}",
+            library / plain,
+            library / one_row,
+        );
+    }
+    println!();
 }
 
 fn plan_test() {

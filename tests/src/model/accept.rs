@@ -1,7 +1,7 @@
 //! When a plan is accepted: checks 6 to 10, after those of the header in `plan`.
 
 use super::algebra::{independent, Span};
-use crate::answer::Answer;
+use crate::answer::{Answer, Places};
 use crate::plan::Plan;
 
 /// The answer of the plan test.
@@ -14,9 +14,6 @@ pub fn accept(bytes: &[u8]) -> Result<Plan, Answer> {
     accept_by(bytes, dependent_windows, dependent_strips)
 }
 
-/// The places of a failure, if there is one.
-pub type Places = Option<(usize, usize)>;
-
 /// `accept` with other ways to find the first dependent windows and strips (see `yardstick`).
 pub fn accept_by(
     bytes: &[u8],
@@ -24,15 +21,11 @@ pub fn accept_by(
     strips: impl Fn(&Plan) -> Places,
 ) -> Result<Plan, Answer> {
     let plan = Plan::parse(bytes)?;
-    let refuse = |number, at: Places| match at {
-        Some((p, q)) => Err(Answer::refusal(number, p, q)),
-        None => Ok(()),
-    };
-    refuse(6, too_large(&plan))?;
-    refuse(7, misplaced_check(&plan))?;
-    refuse(8, windows(&plan))?;
-    refuse(9, strips(&plan))?;
-    refuse(10, dependent_check(&plan))?;
+    Answer::refuse_at(too_large(&plan), 6)?;
+    Answer::refuse_at(misplaced_check(&plan), 7)?;
+    Answer::refuse_at(windows(&plan), 8)?;
+    Answer::refuse_at(strips(&plan), 9)?;
+    Answer::refuse_at(dependent_check(&plan), 10)?;
     Ok(plan)
 }
 
@@ -56,7 +49,7 @@ fn misplaced_check(plan: &Plan) -> Places {
 }
 
 /// The first two windows of b1 rows, possibly the same, whose V entries are dependent.
-fn dependent_windows(plan: &Plan) -> Places {
+pub fn dependent_windows(plan: &Plan) -> Places {
     let windows = plan.n1 - plan.b1 + 1;
     for first in 0..windows {
         for second in first..windows {
@@ -76,7 +69,7 @@ pub fn window_entries(plan: &Plan, first: usize, second: usize) -> impl Iterator
 }
 
 /// The first two strips of b2 columns whose members are dependent.
-fn dependent_strips(plan: &Plan) -> Places {
+pub fn dependent_strips(plan: &Plan) -> Places {
     let strips = plan.n2 - plan.b2 + 1;
     for first in 0..strips {
         for second in first + 1..strips {

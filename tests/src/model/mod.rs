@@ -1,18 +1,32 @@
-//! The three calls, by the words of document 01 and with no eye to speed beyond what full-size
-//! sheets ask for.
+//! The four calls, by the words of documents 01 and 02 (request a) and with no eye to speed beyond
+//! what full-size sheets ask for.
 
 mod accept;
 mod algebra;
+mod maker;
 mod mend;
 mod sheet;
 
-pub use accept::{accept, accept_by, strip_members, test_plan, window_entries, Places};
+pub use accept::{accept, accept_by, strip_members, test_plan, window_entries};
 pub use algebra::{independent, solve, Span};
+pub use maker::{made_plan, power};
 pub use mend::{burst_by_search, burst_by_trial, smallest_rectangle};
 pub use sheet::{data_of, syndrome, turn_over, unused_bits, write_sheet, Cell};
 
 use crate::answer::Answer;
+use crate::given::Given;
 use crate::plan::Plan;
+
+/// Make a plan. A refusal changes nothing.
+pub fn make(given: &Given, plan: &mut [u8]) -> Answer {
+    match made_plan(given, plan.len()) {
+        Ok(made) => {
+            plan.copy_from_slice(&made.encode());
+            Answer::default()
+        }
+        Err(refusal) => refusal,
+    }
+}
 
 /// Write the sheet of `data`. A refusal changes nothing.
 pub fn write(plan: &[u8], data: &[u8], sheet: &mut [u8]) -> Answer {

@@ -8,7 +8,7 @@
 //! two, and reduced without branches; a failure is located by a slower second look.
 
 use super::Basis;
-use crate::model::Places;
+use crate::answer::Places;
 use crate::plan::Plan;
 
 pub fn windows(plan: &Plan) -> Places {

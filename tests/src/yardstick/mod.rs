@@ -2,12 +2,15 @@
 //! bench alone. The tests compare it with the model.
 
 mod best;
+mod maker;
 mod plain;
 mod sheets;
 
 pub use sheets::{read_accepted, write_accepted};
 
-use crate::model::{accept_by, Places};
+use crate::answer::{Answer, Places};
+use crate::given::Given;
+use crate::model::accept_by;
 use crate::plan::Plan;
 
 /// The plan test in plain Rust: the first window's basis is built once for each i, and the second
@@ -23,7 +26,21 @@ pub fn best_plan_test(bytes: &[u8]) -> u64 {
 }
 
 fn packed(bytes: &[u8], windows: fn(&Plan) -> Places, strips: fn(&Plan) -> Places) -> u64 {
-    accept_by(bytes, windows, strips).err().unwrap_or_default().pack()
+    told(accept_by(bytes, windows, strips))
+}
+
+/// Making a plan in plain Rust that tests all pairs, as the plain plan test does.
+pub fn plain_plan_make(given: &Given, plan: &mut [u8]) -> u64 {
+    told(maker::make(given, plan, plain::windows, plain::strips))
+}
+
+/// The same with one row of pairs for each table, which is enough for a table of powers.
+pub fn one_row_plan_make(given: &Given, plan: &mut [u8]) -> u64 {
+    told(maker::make(given, plan, plain::first_row_of_windows, plain::first_row_of_strips))
+}
+
+fn told<T>(outcome: Result<T, Answer>) -> u64 {
+    outcome.err().unwrap_or_default().pack()
 }
 
 /// A set of vectors, each at the place of its highest bit.

@@ -8,11 +8,10 @@ use lib.ListN.{length, getD, set, length-set}
 use lib.Seq.{getD-set-same, getD-set-other}
 use Rattle.plan.specs.declared.header.Header.{Header}
 use Rattle.plan.specs.declared.table.Table.{Table}
-use Rattle.plan.specs.declared.table.Table.the-variants.{Rows, Columns}
-use Rattle.plan.specs.Header.{Small}
 use Rattle.plan.specs.Bytes.{Weight}
-use Rattle.plan.specs.Table.{entriesOf, entryOf}
+use Rattle.plan.specs.Table.{entryOf}
 use borrow.Author.Needs.{needs}
+use Rattle.plan.proofs.Framing.{table-room}
 use Rattle.plan.proofs.table.unpack.Statement.{statement}
 use Rattle.plan.proofs.table.unpack.Tie as tie
 
@@ -32,11 +31,6 @@ one-more s h t k words x l u e = record { size = length-set words k x ∙ u .siz
     at : (j : ℕ) → j < k + 1 → Dec (j ≡ k) → Weight (entryOf s h t j) (getD (set words k x) j 0)
     at j lj (yes q) = rw (q, here) e
     at j lj (no q) = rw (getD-set-other words k j x 0 q) (u .entry j (omega arith))
-
--- either table has room
-room : (h : Header) (t : Table) → Small h → entriesOf h t ≤ 2792
-room h Rows s = omega (arith, s .row-positions)
-room h Columns s = s .column-positions
 
 abbrev Inv-loop : tie.InvT-loop
 Inv-loop plan h t words₀ count k₀ words k = (k ≤ count) × First plan h t k words
@@ -58,21 +52,21 @@ entry-requires c κs =
 mul-words : tie.Need-mul-words Inv-loop μ-loop
 mul-words c =
     let s = c .before .before .before .before .before .before in
-    let r = room (s .args .h) (s .args .t) (s .pre .0 .small) in
+    let r = table-room (s .args .h) (s .args .t) (s .pre .0 .small) in
     let e = c .before .before .before .entries .ensures in
     omega arith
 
 slice-write-words : tie.Need-slice-write-words Inv-loop μ-loop
 slice-write-words c =
     let s = c .before .before .before .before .before .before in
-    let r = room (s .args .h) (s .args .t) (s .pre .0 .small) in
+    let r = table-room (s .args .h) (s .args .t) (s .pre .0 .small) in
     let e = c .before .before .before .entries .ensures in
     omega arith
 
 add-k : tie.Need-add-k Inv-loop μ-loop
 add-k c =
     let s = c .before .before .before .before .before .before in
-    let r = room (s .args .h) (s .args .t) (s .pre .0 .small) in
+    let r = table-room (s .args .h) (s .args .t) (s .pre .0 .small) in
     let e = c .before .before .before .entries .ensures in
     omega arith
 
@@ -83,7 +77,7 @@ loop-again : tie.Need-loop-again Inv-loop μ-loop
 loop-again c =
     let l = c .before .before .loop in
     let s = c .before .before .before .before .before .before in
-    let r = room (s .args .h) (s .args .t) (s .pre .0 .small) in
+    let r = table-room (s .args .h) (s .args .t) (s .pre .0 .small) in
     let e = c .before .before .before .entries .ensures in
     (omega arith, one-more _ _ _ _ _ _ (omega arith) (l .inv .1) (c .entry .ensures))
 

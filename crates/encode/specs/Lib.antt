@@ -1,0 +1,2 @@
+-- A plan into bytes.
+pub mod Encode
