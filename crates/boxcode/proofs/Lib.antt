@@ -1,6 +1,7 @@
 -- The theorems about the definitions of specs/.
 pub mod Image
 pub mod Syndrome
+pub mod Run
 pub mod Pattern
 pub mod Burst
 pub mod Separated

@@ -2,6 +2,7 @@
 pub mod Code
 pub mod Condition
 pub mod Syndrome
+pub mod Run
 pub mod Burst
 pub mod Check
 pub mod Reader

@@ -1,6 +1,7 @@
 -- The laws of the definitions of specs/.
 pub mod Xor
 pub mod Sum
+pub mod RunSum
 pub mod Independence
 pub mod Spans
 pub mod Vectors

@@ -1,4 +1,4 @@
 -- The laws of the definitions of specs/.
 pub mod Part
 pub mod Line
-pub mod Rows
+pub mod Fed

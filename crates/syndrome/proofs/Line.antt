@@ -24,12 +24,13 @@ use Rattle.gf2.proofs.Sum.{sum-none}
 use Rattle.layout.specs.Cells.{rowBytes, byteOf, cellOf}
 use Rattle.boxcode.specs.Code.{rowWeight, columnWeight}
 use Rattle.boxcode.specs.Syndrome.{Cells}
+use Rattle.boxcode.specs.Run.{rowSum}
 use Rattle.plan.specs.Header.{Framed}
 use Rattle.plan.specs.Bytes.{rowEntryAt, codeWith}
 use Rattle.plan.specs.Table.{Unpacked}
 use Rattle.plan.specs.declared.header.Header.{Header}
 use Rattle.syndrome.specs.declared.sums.Sums.{Sums}
-use Rattle.syndrome.specs.Gather.{rowSum, byteSum, rowsAt, columnsAt, RowWords, Words, TwoSums}
+use Rattle.syndrome.specs.Gather.{byteSum, rowsAt, columnsAt, RowWords, Words, TwoSums}
 use Rattle.syndrome.proofs.Part.{line-byte, line-equal, line-below, row-weight, column-weight}
 
 pub cell-in-byte : (n2 : ℕ) (s : List ℕ) (i b t : ℕ) → t < 8 → cellOf n2 s i (8 * b + t) ≡ bit (getD s (i * rowBytes n2 + b) 0) t

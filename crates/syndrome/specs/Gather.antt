@@ -1,13 +1,14 @@
--- The two sums of a sheet, gathered row by row and byte by byte.
+-- The two sums of a sheet, gathered row by row, from the last row to the first, and byte by byte.
 --
---   rowSum n2 w s i      the exclusive-or of the weights of the dark cells of row i
---   byteSum f x j n      the same of the n cells from column j on that stand in the byte x, with weight f of a column
+--   byteSum f x j n      the exclusive-or of the weights of the n cells from column j on that stand in the byte x, with weight f of a column
 --   rowsAt, columnsAt    the weight of a column by the words of a row of V, and by the unpacked table H
 --   RowWords f n words   words k is f k, for the n entries of V that a row has
 --   Words                what gathering a row asks of its tables
 --   TwoSums v h r        r has the sums v and h, which have at most 32 bits
 --   ByteSums .. r        r has the two sums of the cells from column j on that stand in the byte x
 --   RowSums c s i r      r has the two sums of row i of the sheet s
+--   RunSums c s a b r    r has the two sums of the rows from a up to but not including b
+--   Fed c s i r          r has the two sums of the rows fed so far, those from row i on (02 b)
 --   SheetSums c s r      r has the two sums of the sheet
 use Prim.Native.Nat.{ℕ, _+_, _-_, _*_, _%_, _≤_, _<_, min}
 use mathlib.Core.Path.{_≡_}
@@ -17,10 +18,8 @@ use Rattle.finite.specs.Search.{bit}
 use Rattle.gf2.specs.Sum.{chosenSum}
 use Rattle.boxcode.specs.Code.{Code, rowWeight, columnWeight}
 use Rattle.boxcode.specs.Syndrome.{Cells, rowSyndrome, columnSyndrome}
+use Rattle.boxcode.specs.Run.{rowSum, rowSyndromeIn, columnSyndromeIn}
 use Rattle.syndrome.specs.declared.sums.Sums.{Sums}
-
-unfoldable pub rowSum : ℕ → (ℕ → ℕ → ℕ) → Cells → ℕ → ℕ
-rowSum n2 w s i = chosenSum n2 (s i) (w i)
 
 unfoldable pub byteSum : (ℕ → ℕ) → ℕ → ℕ → ℕ → ℕ
 byteSum f x j n = chosenSum n (bit x) (λ t. f (j + t))
@@ -59,6 +58,14 @@ ByteSums n2 b1 b2 q rows columns x j r =
 
 abbrev pub RowSums : Code → Cells → ℕ → Sums → Type 0
 RowSums c s i r = TwoSums (rowSum (c .n2) (rowWeight c) s i) (rowSum (c .n2) (columnWeight c) s i) r
+
+abbrev pub RunSums : Code → Cells → ℕ → ℕ → Sums → Type 0
+RunSums c s a b r = TwoSums (rowSyndromeIn c a b s) (columnSyndromeIn c a b s) r
+
+-- 02 b)'s sentence: "at each step what is held is shown to be the two sums of the courses fed so far". The last row is fed
+-- first, so the rows fed are those from i on; at n1 there is none
+abbrev pub Fed : Code → Cells → ℕ → Sums → Type 0
+Fed c s i r = RunSums c s i (c .n1) r
 
 abbrev pub SheetSums : Code → Cells → Sums → Type 0
 SheetSums c s r = TwoSums (rowSyndrome c s) (columnSyndrome c s) r

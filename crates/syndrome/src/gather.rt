@@ -1,4 +1,4 @@
-// Gathering the two sums: a byte, a row, the sheet.
+// Gathering the two sums: a byte, a row, the sheet from its last row to its first.
 ghost use mathlib.Core.Path.{_≡_};
 ghost use Prim.Native.Nat.{ℕ, _+_, _-_, _*_, _%_, _<_};
 ghost use lib.ListN.{length};
@@ -6,7 +6,7 @@ ghost use Rattle.layout.specs.Cells.{sheetBytes, cellOf};
 ghost use Rattle.plan.specs.Header.{Framed};
 ghost use Rattle.plan.specs.Bytes.{rowEntryAt, codeWith};
 ghost use Rattle.plan.specs.Table.{Unpacked};
-ghost use Rattle.syndrome.specs.Gather.{RowWords, Words, ByteSums, RowSums, SheetSums};
+ghost use Rattle.syndrome.specs.Gather.{RowWords, Words, ByteSums, RowSums, Fed, SheetSums};
 use crate::sums::Sums;
 use layout::cells::row_bytes;
 use layout::compare::smaller;
@@ -90,22 +90,34 @@ pub fn row_sums(sheet: &[u8], plan: &[u8], h: Header, columns: &[u64], i: usize)
     Sums { row, column }
 }
 
-// The two sums of a sheet, row after row.
+// Row i is fed, after the rows from i + 1 on, whose sums are held: then those of the rows from i on are held.
+fn feed(sheet: &[u8], plan: &[u8], h: Header, columns: &[u64], i: usize, held: Sums) -> Sums
+    requires { ⌜ Framed (now plan) h ⌝ }
+    requires { ⌜ Unpacked (now plan) h (now columns) ⌝ }
+    requires { ⌜ length (now sheet) ≡ sheetBytes (h .n1) (h .n2) ⌝ }
+    requires { ⌜ i < h .n1 ⌝ }
+    requires { ⌜ Fed (codeWith (now plan) h) (cellOf (h .n2) (now sheet)) (i + 1) held ⌝ }
+    ensures { λ r. ⌜ Fed (codeWith (now (plan .entry)) h) (cellOf (h .n2) (now (sheet .entry))) i r ⌝ }
+{
+    let s = row_sums(sheet, plan, h, columns, i);
+    Sums {
+        row: held.row ^ s.row,
+        column: held.column ^ s.column,
+    }
+}
+
+// The two sums of a sheet, fed from the last row to the first (02 b).
 pub fn sums(sheet: &[u8], plan: &[u8], h: Header, columns: &[u64]) -> Sums
     requires { ⌜ Framed (now plan) h ⌝ }
     requires { ⌜ Unpacked (now plan) h (now columns) ⌝ }
     requires { ⌜ length (now sheet) ≡ sheetBytes (h .n1) (h .n2) ⌝ }
     ensures { λ r. ⌜ SheetSums (codeWith (now (plan .entry)) h) (cellOf (h .n2) (now (sheet .entry))) r ⌝ }
 {
-    let mut row = 0u64;
-    let mut column = 0u64;
-    let n1 = h.n1;
-    let mut i = 0;
-    while i < n1 {
-        let s = row_sums(sheet, plan, h, columns, i);
-        row = row ^ s.row;
-        column = column ^ s.column;
-        i += 1;
+    let mut held = Sums { row: 0, column: 0 };
+    let mut i = h.n1;
+    while 0 < i {
+        i -= 1;
+        held = feed(sheet, plan, h, columns, i, held);
     }
-    Sums { row, column }
+    held
 }

@@ -1,0 +1,55 @@
+-- Laws of the sum over a run of places, from place a up to but not including place b, over any family and any bound n:
+--
+--   run-sum-empty    where b is at or below a it is 0
+--   run-sum-single   of one place it is the value there
+--   run-sum-joined   the run a to b and then the run b to c are the run a to c
+--   run-sum-next     one place more at the end
+--   run-sum-before   one place more at the front
+--   run-sum-whole    the run 0 to n is the whole sum
+--
+-- Assumes nothing.
+use mathlib.Core.Path.{_≡_, sym, ap, _∙_}
+use Prim.Native.Nat.{ℕ, _+_, _-_, _≤_, _<_, min}
+use native.Mathlib.Omega.{arith}
+use Rattle.gf2.specs.Xor.{_⊕_}
+use Rattle.gf2.specs.Sum.{xorSum, runSum}
+use Rattle.gf2.proofs.Xor.{xor-zero-left}
+use Rattle.gf2.proofs.Sum.{sum-none, sum-next, sum-equal, sum-split}
+
+module _ (n : ℕ) (f : ℕ → ℕ) where
+  pub run-sum-empty : (a b : ℕ) → b ≤ a → runSum n f a b ≡ 0
+  unfolding runSum
+  run-sum-empty a b l =
+      let e : min b n - a ≡ 0 = omega arith in
+      ap (λ (m : ℕ). xorSum m (λ k. f (a + k))) e ∙ sum-none (λ k. f (a + k))
+
+  pub run-sum-single : (a : ℕ) → a < n → runSum n f a (a + 1) ≡ f a
+  unfolding runSum
+  run-sum-single a l =
+      let e : min (a + 1) n - a ≡ 1 = omega arith in
+      let z : a + 0 ≡ a = omega arith in
+      ap (λ (m : ℕ). xorSum m (λ k. f (a + k))) e ∙ sum-next 0 (λ k. f (a + k))
+      ∙ ap (λ (x : ℕ). x ⊕ f (a + 0)) (sum-none (λ k. f (a + k))) ∙ xor-zero-left (f (a + 0)) ∙ ap f z
+
+  -- a place of the second run is below n, so the first run ends at b
+  pub run-sum-joined : (a b c : ℕ) → a ≤ b → b ≤ c → runSum n f a c ≡ runSum n f a b ⊕ runSum n f b c
+  unfolding runSum
+  run-sum-joined a b c l m =
+      let x = min b n - a in
+      let y = min c n - b in
+      let e : min c n - a ≡ x + y = omega arith in
+      ap (λ (m : ℕ). xorSum m (λ k. f (a + k))) e ∙ sum-split x y (λ k. f (a + k))
+      ∙ ap (λ (v : ℕ). xorSum x (λ k. f (a + k)) ⊕ v)
+      (sum-equal y (λ k. f (a + (x + k))) (λ k. f (b + k)) (λ k lk. ap f (omega arith)))
+
+  pub run-sum-next : (a b : ℕ) → a ≤ b → b < n → runSum n f a (b + 1) ≡ runSum n f a b ⊕ f b
+  run-sum-next a b l m = run-sum-joined a b (b + 1) l (omega arith) ∙ ap (λ (v : ℕ). runSum n f a b ⊕ v) (run-sum-single b m)
+
+  pub run-sum-before : (a b : ℕ) → a < b → a < n → runSum n f a b ≡ f a ⊕ runSum n f (a + 1) b
+  run-sum-before a b l m = run-sum-joined a (a + 1) b (omega arith) (omega arith) ∙ ap (λ (v : ℕ). v ⊕ runSum n f (a + 1) b) (run-sum-single a m)
+
+  pub run-sum-whole : runSum n f 0 n ≡ xorSum n f
+  unfolding runSum
+  run-sum-whole =
+      let e : min n n - 0 ≡ n = omega arith in
+      ap (λ (m : ℕ). xorSum m (λ k. f (0 + k))) e ∙ sum-equal n (λ k. f (0 + k)) f (λ k l. ap f (omega arith))
