@@ -47,11 +47,12 @@ static void find_checks(void) {
         is_check[number16(at)][number16(at + 2)] = 1;
 }
 
-/* The drawing as data: the cells that are not check cells, in sheet order. */
+/* The drawing as data: the cells that are not check cells, row by row, in odd rows from the highest column down. */
 static void draw(void) {
     size_t d = 0;
     for (size_t i = 0; i < ROWS; i++)
-        for (size_t j = 0; j < COLUMNS; j++) {
+        for (size_t n = 0; n < COLUMNS; n++) {
+            size_t j = i % 2 == 1 ? COLUMNS - 1 - n : n;
             if (is_check[i][j]) continue;
             if (drawing[i][j] == '#') data[d / 8] |= (uint8_t)(1u << d % 8);
             d++;

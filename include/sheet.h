@@ -92,6 +92,8 @@ uint64_t sheet_plan_test(const uint8_t *plan, size_t plan_len);
 /*
  * Writes the sheet that carries the data: checks 1 to 13, then every byte of the sheet, whatever it held.
  * sheet_len is sheet_plan_sheet_bytes, data_len sheet_plan_data_bytes. Leaves plan and data alone.
+ * Data fills the cells that are not check cells, row by row: in even rows from column 0 up, in odd rows from the highest
+ * column down. Bit d of the data is bit d % 8 of byte d / 8. Reading gives the data in the same order.
  */
 uint64_t sheet_write(const uint8_t *plan, size_t plan_len, const uint8_t *data, size_t data_len, uint8_t *sheet,
                      size_t sheet_len);

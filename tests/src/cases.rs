@@ -77,10 +77,10 @@ pub fn write_cases() -> Vec<WriteCase> {
     let t = |data: u8, sheet: [u8; 2]| (plan_t(), vec![data], sheet.to_vec());
     vec![
         s(0x00, [0x00, 0x00, 0x00]),
-        s(0x01, [0x03, 0x03, 0x00]),
+        s(0x01, [0x05, 0x05, 0x00]),
         s(0x1f, [0x01, 0x07, 0x07]),
-        t(0x01, [0x05, 0x05]),
-        t(0x02, [0x0a, 0x0a]),
+        t(0x01, [0x0a, 0x0a]),
+        t(0x02, [0x05, 0x05]),
         t(0x03, [0x0f, 0x0f]),
     ]
 }
@@ -92,8 +92,8 @@ pub type ReadCase = (Plan, Vec<u8>, Option<([u64; 5], Vec<u8>, Vec<u8>)>);
 pub fn read_cases() -> Vec<ReadCase> {
     let s = |sheet: [u8; 3], read| (plan_s(), sheet.to_vec(), read);
     let t = |sheet: [u8; 2], read| (plan_t(), sheet.to_vec(), read);
-    let case3 = ([1, 2, 0, 1, 1], vec![0x03, 0x03, 0x00], vec![0x01]);
-    let case6 = ([2, 0, 1, 1, 2], vec![0x05, 0x05], vec![0x01]);
+    let case3 = ([1, 2, 0, 1, 1], vec![0x03, 0x03, 0x00], vec![0x02]);
+    let case6 = ([2, 0, 1, 1, 2], vec![0x05, 0x05], vec![0x02]);
     vec![
         s([0x03, 0x03, 0x01], Some(case3)),
         s([0x03, 0x00, 0x00], None),

@@ -89,11 +89,12 @@ pub fn field_rows(rows: usize, ratio: u32) -> Vec<u32> {
     entries
 }
 
-/// Where check cells are looked for: in sheet order, or in random order.
+/// Where check cells are looked for: in sheet order, in random order, or in the odd rows first.
 #[derive(Clone, Copy, Debug)]
 pub enum CellOrder {
     Sheet,
     Scattered,
+    OddRows,
 }
 
 impl Plan {
@@ -102,8 +103,10 @@ impl Plan {
     pub fn with_checks(mut self, order: CellOrder, rng: &mut Rng) -> Option<Plan> {
         let (n1, n2) = (self.n1 as u16, self.n2 as u16);
         let mut cells: Vec<_> = (0..n1).flat_map(|i| (0..n2).map(move |j| (i, j))).collect();
-        if let CellOrder::Scattered = order {
-            rng.shuffle(&mut cells);
+        match order {
+            CellOrder::Sheet => {}
+            CellOrder::Scattered => rng.shuffle(&mut cells),
+            CellOrder::OddRows => cells.sort_by_key(|&(i, _)| i % 2 == 0),
         }
         let mut taken = Span::default();
         self.checks.clear();

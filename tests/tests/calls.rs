@@ -82,6 +82,26 @@ fn every_burst_of_small_plans() {
     assert!(plans >= 200 && bursts >= 100_000);
 }
 
+/// Check cells in odd rows alone, where the data runs down between them, and rows of every length
+/// modulo 8. Of some rows every cell is a check cell.
+#[test]
+fn check_cells_in_odd_rows() {
+    let mut harness = Harness::new(7);
+    let mut full_rows = 0;
+    for n2 in 7..=70 {
+        let plan = powers_3x3(20, n2, CellOrder::OddRows, &mut harness.rng);
+        assert!(plan.checks.iter().all(|(i, _)| i % 2 == 1));
+        let in_row = |row| plan.checks.iter().filter(|&&(i, _)| i == row).count();
+        full_rows += (0..20).filter(|&row| in_row(row) == n2).count();
+        for _ in 0..8 {
+            let written = harness.written(plan.clone());
+            let burst = random_burst(&written.plan, &mut harness.rng);
+            harness.mends(&written, &burst);
+        }
+    }
+    assert!(full_rows >= 5, "{full_rows} rows of check cells alone");
+}
+
 /// Random sheets and sheets with two bursts: 14 or a mend, as the model says.
 #[test]
 fn sheets_that_need_not_be_mendable() {

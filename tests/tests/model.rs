@@ -47,13 +47,42 @@ fn worked_sheets() {
     }
 }
 
+/// 02 c): a data bit alone darkens the cell of its number, and of the other data cells none. Cells are
+/// numbered row by row, in odd rows from the highest column down, check cells left out.
+#[test]
+fn odd_rows_run_down() {
+    let mut rng = Rng::new(16);
+    for (b1, b2) in burst_sizes() {
+        let plan = accepted(&mut rng, b1, b2, 9);
+        let mut cells = Vec::new();
+        for i in 0..plan.n1 {
+            let mut row: Vec<_> = (0..plan.n2).map(|j| (i, j)).collect();
+            if i % 2 == 1 {
+                row.reverse();
+            }
+            cells.extend(row);
+        }
+        cells.retain(|&(i, j)| !plan.checks.contains(&(i as u16, j as u16)));
+        assert_eq!(cells.len(), plan.data_bits());
+        for (bit, &cell) in cells.iter().enumerate() {
+            let mut data = vec![0; plan.data_len()];
+            data[bit / 8] = 1 << (bit % 8);
+            let sheet = model::write_sheet(&plan, &data);
+            let is_dark =
+                |&(i, j): &(usize, usize)| sheet[i * plan.row_len() + j / 8] >> (j % 8) & 1 == 1;
+            let dark: Vec<_> = cells.iter().copied().filter(is_dark).collect();
+            assert_eq!(dark, [cell]);
+        }
+    }
+}
+
 /// Case 12, and each way in which the input can be cut into plan and sheet.
 #[test]
 fn printed_lines() {
     let t = plan_t().encode();
     let with = |tail: &[u8]| [&t[..], tail].concat();
-    assert_eq!(line(&with(&[0x03, 0x05])), "ok 2 0 1 1 2 01");
-    assert_eq!(line(&with(&[0x05, 0x05])), "ok 0 0 0 0 0 01");
+    assert_eq!(line(&with(&[0x03, 0x05])), "ok 2 0 1 1 2 02");
+    assert_eq!(line(&with(&[0x05, 0x05])), "ok 0 0 0 0 0 02");
     assert_eq!(line(&with(&[0x0c, 0x05])), "no 14 0 0");
     assert_eq!(line(&with(&[0x0c, 0x15])), "no 13 1 0");
     assert_eq!(line(&with(&[0x03, 0x05, 0x00])), "no 11 0 0");

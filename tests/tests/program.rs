@@ -62,7 +62,7 @@ fn blotted(plan: &Plan, rng: &mut Rng) -> Vec<u8> {
 
 #[test]
 fn case_12() {
-    assert_eq!(compare(&joined(&plan_t().encode(), &[0x03, 0x05])), "ok 2 0 1 1 2 01\n");
+    assert_eq!(compare(&joined(&plan_t().encode(), &[0x03, 0x05])), "ok 2 0 1 1 2 02\n");
 }
 
 #[test]

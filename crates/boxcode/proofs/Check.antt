@@ -1,7 +1,8 @@
 -- Check cells and data cells, for any code of the right form:
 --
---   order-below, order-twice     the two laws of the data's order; no other fact of it is used
 --   number-row, number-column, number-on, number-cell    a cell and its number
+--   order-below, order-twice     the two laws of the data's order; no other fact of it is used here
+--   column-below, order-cell     a row of the order is that row of the sheet: for payload, which walks it
 --   check-rise, check-listed     the check cells rise in sheet order, and are different cells of the sheet
 --   check-row, check-column      a check cell from its number
 --   check-here, check-found, check-index   which numbers are check cells, and their places in the list
@@ -13,9 +14,9 @@
 --
 -- Assumes nothing.
 use mathlib.Core.Path.{_≡_, refl, sym, ap, _∙_}
-use mathlib.Core.Bool.{Bool, true, false, not}
-use Prim.Native.Nat.{ℕ, zero, suc, _+_, _*_, _/_, _%_, _≤_, _<_}
-use native.Mathlib.Nat.{div-add-mod', mul-le-mul}
+use mathlib.Core.Bool.{Bool, true, false, cond, not}
+use Prim.Native.Nat.{ℕ, zero, suc, _+_, _-_, _*_, _/_, _%_, _≤_, _<_}
+use native.Mathlib.Nat.{div-add-mod', mul-le-mul, mul-zero, mod-lt, div-lt-iff-lt-mul}
 use native.Mathlib.Decide.{ℕ-discrete, decLt}
 use native.Mathlib.Omega.{arith}
 use lib.Dec.{eqb}
@@ -23,22 +24,11 @@ use lib.Arith.{digits-lt, digits-div, digits-mod}
 use borrow.Author.Tests.{eqb-true, eq-eqb, not-true as unnot}
 use Rattle.finite.specs.Search.{anyBelow, countBelow, least}
 use Rattle.boxcode.specs.Code.{Code, Formed, cellNumber}
-use Rattle.boxcode.specs.Check.{checkNumber, checkAt, checkIndex, dataOrder, dataSize, rank, dataCell}
+use Rattle.boxcode.specs.Check.{checkNumber, checkAt, checkIndex, runsDown, dataColumn, dataOrder, dataSize, rank, dataCell}
 use Rattle.finite.proofs.Truth.{same-truth}
 use Rattle.finite.proofs.Search.{any-found, any-here, any-equal, least-found, least-most}
 use Rattle.finite.proofs.Count.{count-equal, count-not, count-rise, select, select-count, select-below, select-holds, select-number}
 use Rattle.boxcode.proofs.Image.{Listed, count-image}
-
--- ---- the order of the data: two laws
-
-module _ (c : Code) where
-  pub order-below : (t : ℕ) → t < c .n1 * c .n2 → dataOrder c t < c .n1 * c .n2
-  unfolding dataOrder
-  order-below t l = l
-
-  pub order-twice : (t : ℕ) → t < c .n1 * c .n2 → dataOrder c (dataOrder c t) ≡ t
-  unfolding dataOrder
-  order-twice t l = refl
 
 -- ---- cells and their numbers
 
@@ -58,6 +48,60 @@ module _ (c : Code) (i j : ℕ) (lj : j < c .n2) where
 pub number-cell : (c : Code) (t : ℕ) → cellNumber c (t / c .n2) (t % c .n2) ≡ t
 unfolding cellNumber
 number-cell c t = div-add-mod' t (c .n2)
+
+-- ---- the order of the data: its rows and its two laws
+
+module _ (c : Code) where
+  module _ (i j : ℕ) (l : j < c .n2) where
+    pub column-below : dataColumn c i j < c .n2
+    unfolding dataColumn
+    column-below = go (runsDown i)
+      where
+        go : (b : Bool) → cond b (c .n2 - 1 - j) j < c .n2
+        go true = omega arith
+        go false = l
+
+    column-twice : dataColumn c i (dataColumn c i j) ≡ j
+    unfolding dataColumn
+    column-twice = go (runsDown i)
+      where
+        go : (b : Bool) → cond b (c .n2 - 1 - cond b (c .n2 - 1 - j) j) (cond b (c .n2 - 1 - j) j) ≡ j
+        go true = omega arith
+        go false = refl
+
+    -- a row of the data's order is that row of the sheet
+    pub order-cell : dataOrder c (cellNumber c i j) ≡ cellNumber c i (dataColumn c i j)
+    unfolding dataOrder
+    order-cell = rw (number-row c i j l, number-column c i j l)
+
+  module _ (t : ℕ) (l : t < c .n1 * c .n2) where
+    wide : 0 < c .n2
+    wide = go (decLt 0 (c .n2))
+      where
+        go : Dec (0 < c .n2) → 0 < c .n2
+        go (yes h) = h
+        go (no h) =
+            let z : c .n2 ≡ 0 = omega arith in
+            let e : c .n1 * c .n2 ≡ 0 = ap (λ (x : ℕ). c .n1 * x) z ∙ mul-zero (c .n1) in
+            absurd (omega arith)
+
+    inside : t % c .n2 < c .n2
+    inside = mod-lt t wide
+
+    row-below : t / c .n2 < c .n1
+    row-below = div-lt-iff-lt-mul wide .1 l
+
+    pub order-below : dataOrder c t < c .n1 * c .n2
+    unfolding dataOrder
+    order-below = number-on c (t / c .n2) (dataColumn c (t / c .n2) (t % c .n2)) (column-below (t / c .n2) (t % c .n2) inside) row-below
+
+    pub order-twice : dataOrder c (dataOrder c t) ≡ t
+    order-twice =
+        let i = t / c .n2 in
+        let j = t % c .n2 in
+        ap (dataOrder c) (ap (dataOrder c) (sym (number-cell c t)) ∙ order-cell i j inside)
+        ∙ order-cell i (dataColumn c i j) (column-below i j inside)
+        ∙ ap (cellNumber c i) (column-twice i j inside) ∙ number-cell c t
 
 -- for the bounds of document 01
 pub sheet-cells : {n1 n2 : ℕ} → n1 ≤ 512 → n2 ≤ 698 → n1 * n2 ≤ 357376

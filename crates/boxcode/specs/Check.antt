@@ -1,8 +1,10 @@
--- Check cells, the order of the data, and the sheet written from a string of data (document 01, "Sheet and data").
+-- Check cells, the order of the data, and the sheet written from a string of data (document 01, "Sheet and data"; the order: 02 c).
 --
 --   checkAt         number t in sheet order is a check cell
 --   checkIndex      the place in the check list of the check cell with number t
---   dataOrder       from the place in the order in which data runs to the number in sheet order: here the same
+--   runsDown        the data of row i runs from the highest column down: in odd rows
+--   dataColumn      the column of the cell at place j of row i, in the order in which data runs
+--   dataOrder       from the place in the order in which data runs to the number in sheet order
 --   dataSize        k, the number of data bits
 --   rank            how many data cells come before the place t of the data's order
 --   dataCell        the number in sheet order of the cell that holds data bit d
@@ -29,8 +31,14 @@ checkAt c t = anyBelow (c .rv + c .rh) (λ k. eqb (checkNumber c k) t)
 unfoldable pub checkIndex : Code → ℕ → ℕ
 checkIndex c t = least (c .rv + c .rh) (λ k. eqb (checkNumber c k) t)
 
+unfoldable pub runsDown : ℕ → Bool
+runsDown i = eqb (i % 2) 1
+
+unfoldable pub dataColumn : Code → ℕ → ℕ → ℕ
+dataColumn c i j = cond (runsDown i) (c .n2 - 1 - j) j
+
 unfoldable pub dataOrder : Code → ℕ → ℕ
-dataOrder c t = t
+dataOrder c t = cellNumber c (t / c .n2) (dataColumn c (t / c .n2) (t % c .n2))
 
 unfoldable pub dataSize : Code → ℕ
 dataSize c = c .n1 * c .n2 - (c .rv + c .rh)

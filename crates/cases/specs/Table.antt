@@ -1,7 +1,7 @@
 -- The table of cases: what is handed in, and what the definitions answer.
 --
 --   Case       a call: the test of a plan, writing, or reading, with what is handed in and what must come of it
---   table      the starred cases of document 01, "Small plans and what they do", in its order
+--   table      the starred cases of document 01, "Small plans and what they do", in its order, as document 02 c) has them
 use Prim.Native.Nat.{ℕ}
 use mathlib.Core.List.{List, [], _∷_}
 use Rattle.plan.specs.declared.verdict.Verdict.{Verdict}
@@ -41,21 +41,21 @@ table =
     -- 1. S and T are accepted
     testing S accepted
     ∷ testing T accepted
-    -- 2. S: data 00 gives 00 00 00; 01 gives 03 03 00; 1f gives 01 07 07
+    -- 2. S: data 00 gives 00 00 00; 01 gives 05 05 00 (02 c); 1f gives 01 07 07
     ∷ writes S (0 ∷ []) (9 ∷ 9 ∷ 9 ∷ []) (0 ∷ 0 ∷ 0 ∷ [])
-    ∷ writes S (1 ∷ []) (9 ∷ 9 ∷ 9 ∷ []) (3 ∷ 3 ∷ 0 ∷ [])
+    ∷ writes S (1 ∷ []) (9 ∷ 9 ∷ 9 ∷ []) (5 ∷ 5 ∷ 0 ∷ [])
     ∷ writes S (31 ∷ []) (9 ∷ 9 ∷ 9 ∷ []) (1 ∷ 7 ∷ 7 ∷ [])
-    -- 3. S: sheet 03 03 01 gives 1 2 0 1 1, data 01
-    ∷ reads S (3 ∷ 3 ∷ 1 ∷ []) (9 ∷ []) (five 1 2 0 1 1) (3 ∷ 3 ∷ 0 ∷ []) (1 ∷ [])
+    -- 3. S: sheet 03 03 01 gives 1 2 0 1 1, data 02 (02 c)
+    ∷ reads S (3 ∷ 3 ∷ 1 ∷ []) (9 ∷ []) (five 1 2 0 1 1) (3 ∷ 3 ∷ 0 ∷ []) (2 ∷ [])
     -- 4. S: sheets 03 00 00 and 06 01 00 give 14
     ∷ none S (3 ∷ 0 ∷ 0 ∷ []) (9 ∷ [])
     ∷ none S (6 ∷ 1 ∷ 0 ∷ []) (9 ∷ [])
-    -- 5. T: data 01, 02, 03 give 05 05, 0a 0a, 0f 0f
-    ∷ writes T (1 ∷ []) (9 ∷ 9 ∷ []) (5 ∷ 5 ∷ [])
-    ∷ writes T (2 ∷ []) (9 ∷ 9 ∷ []) (10 ∷ 10 ∷ [])
+    -- 5. T: data 01, 02, 03 give 0a 0a, 05 05 (02 c), 0f 0f
+    ∷ writes T (1 ∷ []) (9 ∷ 9 ∷ []) (10 ∷ 10 ∷ [])
+    ∷ writes T (2 ∷ []) (9 ∷ 9 ∷ []) (5 ∷ 5 ∷ [])
     ∷ writes T (3 ∷ []) (9 ∷ 9 ∷ []) (15 ∷ 15 ∷ [])
-    -- 6. T: sheet 03 05 is mended to 05 05
-    ∷ reads T (3 ∷ 5 ∷ []) (9 ∷ []) (five 2 0 1 1 2) (5 ∷ 5 ∷ []) (1 ∷ [])
+    -- 6. T: sheet 03 05 is mended to 05 05; its data is what case 12 ends in, 02 (02 c)
+    ∷ reads T (3 ∷ 5 ∷ []) (9 ∷ []) (five 2 0 1 1 2) (5 ∷ 5 ∷ []) (2 ∷ [])
     -- 7. T: sheets 0c 05 and 01 01 give 14
     ∷ none T (12 ∷ 5 ∷ []) (9 ∷ [])
     ∷ none T (1 ∷ 1 ∷ []) (9 ∷ [])

@@ -2,6 +2,7 @@
 --
 --   count-equal, count-none, count-or, count-single, count-not, count-le    counts of related predicates
 --   count-split, count-run   counts over a + b places, and of a predicate that holds in a run only
+--   count-turned     the last m of n places counted downward, and those before them
 --   count-rise       counts rise past a place at which p holds
 --   select n p d     the place below n at which p holds and which has d such places before it
 --   select-count     the place with number (countBelow t p) is t
@@ -75,6 +76,21 @@ count-split a zero p = ap (λ (n : ℕ). countBelow n p) (add-zero a) ∙ sym (a
 count-split a (suc b) p =
     ap (λ (n : ℕ). countBelow n p) (add-suc a b) ∙ ap (λ (x : ℕ). x + cond (p (a + b)) 1 0) (count-split a b p)
     ∙ add-assoc (countBelow a p) (countBelow b (λ k. p (a + k))) (cond (p (a + b)) 1 0)
+
+pub count-turned : (n m : ℕ) (p : ℕ → Bool) → m ≤ n → countBelow m (λ k. p (n - 1 - k)) + countBelow (n - m) p ≡ countBelow n p
+unfolding countBelow
+count-turned n zero p l =
+    let z : n - 0 ≡ n = omega arith in
+    let e : countBelow (n - 0) p ≡ countBelow n p = ap (λ (x : ℕ). countBelow x p) z in
+    omega arith
+count-turned n (suc m) p l = go (n - suc m) (omega arith) (omega arith) (count-turned n m p (omega arith))
+  where
+    go : (x : ℕ) → n - 1 - m ≡ x → n - m ≡ suc x → countBelow m (λ k. p (n - 1 - k)) + countBelow (n - m) p ≡ countBelow n p
+        → countBelow m (λ k. p (n - 1 - k)) + cond (p (n - 1 - m)) 1 0 + countBelow x p ≡ countBelow n p
+    go x e f ih =
+        let q : countBelow (n - m) p ≡ countBelow x p + cond (p (n - 1 - m)) 1 0 =
+        ap (λ (y : ℕ). countBelow y p) f ∙ ap (λ (y : ℕ). countBelow x p + cond (p y) 1 0) (sym e) in
+        omega arith
 
 -- of a predicate that holds in a run of m numbers only: also by the numbers counted so far
 pub count-run : (a m : ℕ) (p : ℕ → Bool) → ((k : ℕ) → p k ≡ true → a ≤ k) → ((k : ℕ) → p k ≡ true → k < a + m) → (n : ℕ)

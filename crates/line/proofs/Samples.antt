@@ -1,6 +1,6 @@
 -- The definitions of the line, tried on a few lines.
 --
---   case-twelve      ok 2 0 1 1 2 01
+--   case-twelve      ok 2 0 1 1 2 02
 --   no-data          ok 16 511 697 4 4
 --   letters          ok 0 0 0 0 0 0aff
 --   refusal-places   no 8 100 2791
@@ -11,8 +11,8 @@ use mathlib.Core.List.{[], _∷_}
 use Rattle.line.specs.Text.{digitOf, decimalWithin, decimalBytes, hexBytes, hexText}
 use Rattle.line.specs.Line.{field, dataField, numbers, okLine, noLine}
 
-pub case-twelve : okLine (record { cells = 2; top = 0; left = 1; height = 1; width = 2 }) (1 ∷ [])
-    ≡ 111 ∷ 107 ∷ 32 ∷ 50 ∷ 32 ∷ 48 ∷ 32 ∷ 49 ∷ 32 ∷ 49 ∷ 32 ∷ 50 ∷ 32 ∷ 48 ∷ 49 ∷ 10 ∷ []
+pub case-twelve : okLine (record { cells = 2; top = 0; left = 1; height = 1; width = 2 }) (2 ∷ [])
+    ≡ 111 ∷ 107 ∷ 32 ∷ 50 ∷ 32 ∷ 48 ∷ 32 ∷ 49 ∷ 32 ∷ 49 ∷ 32 ∷ 50 ∷ 32 ∷ 48 ∷ 50 ∷ 10 ∷ []
 unfolding okLine numbers dataField field decimalBytes decimalWithin hexText hexBytes digitOf
 case-twelve = refl
 

@@ -1,155 +1,216 @@
--- What is put and taken, place by place:
+-- What is put and taken, in sheet order:
 --
---   putTo c x t     the cells of the filled sheet at the first t places, and no others
---   takenTo c s t   the data that stands at the first t places, and no other
---   put-first, put-next, put-step, put-all       nothing is put, one place more, the filled sheet
---   take-first, take-next, take-step, take-all   nothing is taken, one place more, all data
+--   shown u f t     of the cells f those whose number u is below t, and no others
+--   shown-first, shown-next, shown-past, shown-all
+--                   none; one cell more; numbers at which all is light passed over; all
+--   putTo c x t     the first t cells of the filled sheet, and no others
+--   takenTo c s t   the data that stands in the first t cells, and no other
+--   put-first, put-next, put-checks, put-run, put-step, put-all
+--                   nothing is put; a data cell more; check cells passed over; a run more; up to the cursor's next stand; the filled sheet
+--   take-first, take-next, take-checks, take-run, take-step, take-all
+--                   the same of the data
 --
 -- Assumes nothing.
 use mathlib.Core.Path.{_≡_, refl, sym, ap, ap₂, _∙_}
 use mathlib.Core.Bool.{Bool, true, false, cond, xor, _&&_}
 use mathlib.Core.List.{List}
-use Prim.Native.Nat.{ℕ, _+_, _*_, _/_, _%_, _<_}
+use Prim.Native.Nat.{ℕ, zero, suc, _+_, _*_, _/_, _%_, _≤_, _<_}
+use native.Mathlib.Numerals.{add-one}
+use native.Mathlib.Nat.{add-zero, add-suc}
 use native.Mathlib.Decide.{ℕ-discrete, decLt}
 use native.Mathlib.Omega.{arith}
 use borrow.Author.Tests.{eqb-true, eq-eqb, lt-ltb, le-ltb}
 use lib.Dec.{eqb, ltb}
 use lib.ListN.{replicate}
-use Rattle.finite.specs.Search.{countBelow}
-use Rattle.finite.proofs.Truth.{xor-none, xor-light, and-left, and-right, and-true, and-false, not-true}
+use Rattle.finite.specs.Search.{bit}
+use Rattle.finite.proofs.Truth.{xor-none, xor-light, and-left, and-right, and-true, and-false, not-true, clash}
 use Rattle.layout.specs.Cells.{sheetBytes, cellOf, bytesOf, turnedIf}
 use Rattle.finite.proofs.Digits.{bit-none}
 use Rattle.layout.proofs.Form.{bytes-equal, zeros-bytes}
 use Rattle.layout.proofs.Turned.{turned-if-bytes}
 use Rattle.boxcode.specs.Code.{Code, Formed, cellNumber}
 use Rattle.boxcode.specs.Syndrome.{Cells}
-use Rattle.boxcode.specs.Check.{Bits, checkAt, checkIndex, dataOrder, dataSize, rank, fill, dataOf}
-use Rattle.boxcode.proofs.Check.{order-below, order-twice, number-row, number-column, number-on, dataAt, data-count}
+use Rattle.boxcode.specs.Check.{Bits, checkAt, checkIndex, dataOrder, dataSize, rank, dataCell, fill, dataOf}
+use Rattle.boxcode.proofs.Check.{number-row, number-column, number-on, data-below, data-free, data-rank, rank-data, rank-below}
 use Rattle.payload.specs.declared.cursor.Cursor.{Cursor}
-use Rattle.payload.specs.Walk.{atCheck, At}
-use Rattle.payload.specs.Transfer.{putBit, takeBit}
-use Rattle.payload.proofs.Stand.{at-row, at-number, at-check, rank-kept, at-rank, at-below, at-bit}
+use Rattle.payload.specs.Walk.{runLength, bitAt, At, Stepped}
+use Rattle.payload.specs.Transfer.{putRun, takeRun}
+use Rattle.payload.proofs.Stand.{run-column, run-free, run-bit}
 
-unfoldable pub putTo : Code → Bits → ℕ → Cells
-putTo c x t i j = ltb (dataOrder c (cellNumber c i j)) t && fill c x 0 i j
+-- ---- cells by their numbers
 
-unfoldable pub takenTo : Code → Cells → ℕ → Cells
-takenTo c s t i d = ltb d (rank c t) && dataOf c s d
+unfoldable pub shown : (ℕ → ℕ → ℕ) → Cells → ℕ → Cells
+shown u f t i j = ltb (u i j) t && f i j
 
--- place t is added to the places before it: e says that u is t, dark what stands there
-grow : (u t : ℕ) (dark f e : Bool) → (u ≡ t → (e ≡ true) × (f ≡ dark)) → ((u ≡ t → ⊥) → e ≡ false)
-    → xor (ltb u t && f) (dark && e) ≡ (ltb u (t + 1) && f)
-grow u t dark f e same other = go (ℕ-discrete u t)
-  where
-    kept : (u ≡ t → ⊥) → Dec (u < t) → ltb u t ≡ ltb u (t + 1)
-    kept h (yes l) = lt-ltb u t l ∙ sym (lt-ltb u (t + 1) (omega arith))
-    kept h (no l) = le-ltb u t (omega arith) ∙ sym (le-ltb u (t + 1) (omega arith))
+module _ (n m : ℕ) (u : ℕ → ℕ → ℕ) (f : Cells) where
+  shown-first : replicate (sheetBytes n m) 0 ≡ bytesOf n m (shown u f 0)
+  unfolding shown
+  shown-first = zeros-bytes n m (shown u f 0) (λ i j li lj. ap (λ (b : Bool). b && f i j) (le-ltb (u i j) 0 (omega arith)))
 
-    go : Dec (u ≡ t) → xor (ltb u t && f) (dark && e) ≡ (ltb u (t + 1) && f)
-    go (yes q) =
-        ap₂ (λ (a b : Bool). xor (a && f) (dark && b)) (le-ltb u t (omega arith)) (same q .0)
-        ∙ xor-light (dark && true) ∙ and-true dark ∙ sym (same q .1)
-        ∙ ap (λ (a : Bool). a && f) (sym (lt-ltb u (t + 1) (omega arith)))
-    go (no h) =
-        ap₂ (λ (a b : Bool). xor (a && f) (dark && b)) (kept h (decLt u t)) (other h)
-        ∙ ap (xor (ltb u (t + 1) && f)) (and-false dark)
-        ∙ xor-none (ltb u (t + 1) && f)
+  shown-all : (t : ℕ) → ((i j : ℕ) → i < n → j < m → u i j < t) → bytesOf n m (shown u f t) ≡ bytesOf n m f
+  unfolding shown
+  shown-all t h = bytes-equal n m (shown u f t) f (λ i j li lj. ap (λ (b : Bool). b && f i j) (lt-ltb (u i j) t (h i j li lj)))
 
--- ---- putting
+  shown-past : (s t : ℕ) → s ≤ t → ((i j : ℕ) → i < n → j < m → s ≤ u i j → u i j < t → f i j ≡ false)
+      → bytesOf n m (shown u f s) ≡ bytesOf n m (shown u f t)
+  unfolding shown
+  shown-past s t l light =
+      bytes-equal n m (shown u f s) (shown u f t) (λ i j li lj. go (u i j) (f i j) (light i j li lj) (decLt (u i j) s) (decLt (u i j) t))
+    where
+      go : (v : ℕ) (b : Bool) → (s ≤ v → v < t → b ≡ false) → Dec (v < s) → Dec (v < t) → (ltb v s && b) ≡ (ltb v t && b)
+      go v b e (yes h) d = ap (λ (a : Bool). a && b) (lt-ltb v s h ∙ sym (lt-ltb v t (omega arith)))
+      go v b e (no h) (yes g) = ap (λ (a : Bool). a && b) (le-ltb v s (omega arith)) ∙ sym (ap₂ _&&_ (lt-ltb v t g) (e (omega arith) g))
+      go v b e (no h) (no g) = ap (λ (a : Bool). a && b) (le-ltb v s (omega arith) ∙ sym (le-ltb v t (omega arith)))
+
+  -- cell (i, j) and no other has number t
+  shown-next : (i j t : ℕ) → i < n → j < m → u i j ≡ t → ((a b : ℕ) → a < n → b < m → u a b ≡ t → (i ≡ a) × (j ≡ b))
+      → turnedIf (f i j) m (bytesOf n m (shown u f t)) i j ≡ bytesOf n m (shown u f (t + 1))
+  unfolding shown
+  shown-next i j t li lj here only =
+      turned-if-bytes n m (f i j) (shown u f t) (shown u f (t + 1)) i j (λ e. li) (λ e. lj) (λ a b la lb. go a b la lb (ℕ-discrete (u a b) t))
+    where
+      other : (v : ℕ) → (v ≡ t → ⊥) → Dec (v < t) → ltb v t ≡ ltb v (t + 1)
+      other v h (yes l) = lt-ltb v t l ∙ sym (lt-ltb v (t + 1) (omega arith))
+      other v h (no l) = le-ltb v t (omega arith) ∙ sym (le-ltb v (t + 1) (omega arith))
+
+      go : (a b : ℕ) → a < n → b < m → Dec (u a b ≡ t) → xor (ltb (u a b) t && f a b) (f i j && (eqb i a && eqb j b)) ≡ (ltb (u a b) (t + 1) && f a b)
+      go a b la lb (yes q) =
+          let w = only a b la lb q in
+          ap₂ (λ (x y : Bool). xor (x && f a b) (f i j && y)) (le-ltb (u a b) t (omega arith)) (ap₂ _&&_ (eq-eqb i a (w .0)) (eq-eqb j b (w .1)))
+          ∙ xor-light (f i j && true) ∙ and-true (f i j) ∙ ap₂ f (w .0) (w .1)
+          ∙ ap (λ (x : Bool). x && f a b) (sym (lt-ltb (u a b) (t + 1) (omega arith)))
+      go a b la lb (no h) =
+          ap₂ (λ (x y : Bool). xor (x && f a b) (f i j && y)) (other (u a b) h (decLt (u a b) t))
+          (not-true (eqb i a && eqb j b)
+          (λ e.
+          h
+          (sym (ap₂ u (eqb-true i a (and-left (eqb i a) (eqb j b) e)) (eqb-true j b (and-right (eqb i a) (eqb j b) e))) ∙ here)))
+          ∙ ap (xor (ltb (u a b) (t + 1) && f a b)) (and-false (f i j))
+          ∙ xor-none (ltb (u a b) (t + 1) && f a b)
+
+-- ---- putting and taking
+
+abbrev pub putTo : Code → Bits → ℕ → Cells
+putTo c x t = shown (cellNumber c) (fill c x 0) t
+
+abbrev pub takenTo : Code → Cells → ℕ → Cells
+takenTo c s t = shown (λ i d. dataCell c d) (λ i d. dataOf c s d) t
 
 module _ (c : Code) (x : Bits) where
   pub put-first : replicate (sheetBytes (c .n1) (c .n2)) 0 ≡ bytesOf (c .n1) (c .n2) (putTo c x 0)
-  unfolding putTo
-  put-first =
-      zeros-bytes (c .n1) (c .n2) (putTo c x 0)
-      (λ i j li lj. ap (λ (b : Bool). b && fill c x 0 i j) (le-ltb (dataOrder c (cellNumber c i j)) 0 (omega arith)))
+  put-first = shown-first (c .n1) (c .n2) (cellNumber c) (fill c x 0)
 
-  pub put-all : (t : ℕ) → t ≡ c .n1 * c .n2 → bytesOf (c .n1) (c .n2) (putTo c x t) ≡ bytesOf (c .n1) (c .n2) (fill c x 0)
-  unfolding putTo
+  -- check cells are light
+  put-checks : (t u : ℕ) → t ≤ u → ((v : ℕ) → t ≤ v → v < u → checkAt c v ≡ true)
+      → bytesOf (c .n1) (c .n2) (putTo c x t) ≡ bytesOf (c .n1) (c .n2) (putTo c x u)
+  unfolding fill
+  put-checks t u l checks =
+      shown-past (c .n1) (c .n2) (cellNumber c) (fill c x 0) t u l
+      (λ i j li lj a b.
+      ap (λ (d : Bool). cond d (bit 0 (checkIndex c (cellNumber c i j))) (x (rank c (dataOrder c (cellNumber c i j))))) (checks (cellNumber c i j) a b)
+      ∙ bit-none (checkIndex c (cellNumber c i j)))
+
+  pub put-all : (t : ℕ) → c .n1 * c .n2 ≤ t → bytesOf (c .n1) (c .n2) (putTo c x t) ≡ bytesOf (c .n1) (c .n2) (fill c x 0)
   put-all t e =
-      bytes-equal (c .n1) (c .n2) (putTo c x t) (fill c x 0)
-      (λ i j li lj.
-      let l : dataOrder c (cellNumber c i j) < c .n1 * c .n2 = order-below c (cellNumber c i j) (number-on c i j lj li) in
-      ap (λ (b : Bool). b && fill c x 0 i j) (lt-ltb (dataOrder c (cellNumber c i j)) t (omega arith)))
+      shown-all (c .n1) (c .n2) (cellNumber c) (fill c x 0) t
+      (λ i j li lj. let l : cellNumber c i j < c .n1 * c .n2 = number-on c i j lj li in omega arith)
 
-module _ (c : Code) (F : Formed c) (r : Cursor) (A : At c r) (l : r .cell < c .n1 * c .n2) where
-  pub put-next : (x : Bits)
-      → turnedIf (cond (atCheck r) false (x (r .place))) (c .n2) (bytesOf (c .n1) (c .n2) (putTo c x (r .cell))) (r .row) (r .column)
-      ≡ bytesOf (c .n1) (c .n2) (putTo c x (r .cell + 1))
-  unfolding putTo fill
+module _ (c : Code) (F : Formed c) (s : Cells) where
+  pub take-first : replicate (sheetBytes 1 (dataSize c)) 0 ≡ bytesOf 1 (dataSize c) (takenTo c s 0)
+  take-first = shown-first 1 (dataSize c) (λ i d. dataCell c d) (λ i d. dataOf c s d)
+
+  -- no data stands in a check cell
+  take-checks : (t u : ℕ) → t ≤ u → ((v : ℕ) → t ≤ v → v < u → checkAt c v ≡ true)
+      → bytesOf 1 (dataSize c) (takenTo c s t) ≡ bytesOf 1 (dataSize c) (takenTo c s u)
+  take-checks t u l checks =
+      shown-past 1 (dataSize c) (λ i d. dataCell c d) (λ i d. dataOf c s d) t u l
+      (λ i d li ld a b. clash (checks (dataCell c d) a b) (data-free c F d ld))
+
+  pub take-all : (t : ℕ) → c .n1 * c .n2 ≤ t → bytesOf 1 (dataSize c) (takenTo c s t) ≡ bytesOf 1 (dataSize c) (λ i d. dataOf c s d)
+  take-all t e =
+      shown-all 1 (dataSize c) (λ i d. dataCell c d) (λ i d. dataOf c s d) t
+      (λ i d li ld. let l : dataCell c d < c .n1 * c .n2 = data-below c F d ld in omega arith)
+
+-- cell (i, j) is a data cell with the number t, and d is the number of its data bit
+module _ (c : Code) (i j t d : ℕ) (li : i < c .n1) (lj : j < c .n2) (number : i * c .n2 + j ≡ t) (free : checkAt c t ≡ false)
+    (bit-is : d ≡ rank c (dataOrder c t)) where
+  put-next : (x : Bits) → turnedIf (x d) (c .n2) (bytesOf (c .n1) (c .n2) (putTo c x t)) i j ≡ bytesOf (c .n1) (c .n2) (putTo c x (t + 1))
+  unfolding fill cellNumber
   put-next x =
-      turned-if-bytes (c .n1) (c .n2) dark (putTo c x (r .cell)) (putTo c x (r .cell + 1)) (r .row) (r .column) (λ e. at-row c F r A l) (λ e. A .column-in)
-      (λ i j li lj.
-      grow (dataOrder c (cellNumber c i j)) (r .cell) dark (fill c x 0 i j) (eqb (r .row) i && eqb (r .column) j) (here i j li lj)
-      (λ h. not-true (eqb (r .row) i && eqb (r .column) j) (λ e. h (there i j e))))
+      ap (λ (b : Bool). turnedIf b (c .n2) (bytesOf (c .n1) (c .n2) (putTo c x t)) i j) (sym filled)
+      ∙ shown-next (c .n1) (c .n2) (cellNumber c) (fill c x 0) i j t li lj number only
     where
-      dark : Bool
-      dark = cond (atCheck r) false (x (r .place))
+      filled : fill c x 0 i j ≡ x d
+      filled =
+          ap (λ (t : ℕ). cond (checkAt c t) (bit 0 (checkIndex c t)) (x (rank c (dataOrder c t)))) number
+          ∙ ap (λ (b : Bool). cond b (bit 0 (checkIndex c t)) (x (rank c (dataOrder c t)))) free ∙ ap x (sym bit-is)
 
-      -- the cell of the cursor's place is the cursor's
-      here : (i j : ℕ) → i < c .n1 → j < c .n2 → dataOrder c (cellNumber c i j) ≡ r .cell
-          → ((eqb (r .row) i && eqb (r .column) j) ≡ true) × (fill c x 0 i j ≡ dark)
-      here i j li lj e =
-          let n : cellNumber c i j ≡ dataOrder c (r .cell) = sym (order-twice c (cellNumber c i j) (number-on c i j lj li)) ∙ ap (dataOrder c) e in
-          let m : cellNumber c (r .row) (r .column) ≡ cellNumber c i j = at-number c F r A l ∙ sym n in
-          let row : r .row ≡ i = sym (number-row c (r .row) (r .column) (A .column-in)) ∙ ap (λ (t : ℕ). t / c .n2) m ∙ number-row c i j lj in
-          let column : r .column ≡ j = sym (number-column c (r .row) (r .column) (A .column-in)) ∙ ap (λ (t : ℕ). t % c .n2) m ∙ number-column c i j lj in (
-            ap₂ _&&_ (eq-eqb (r .row) i row) (eq-eqb (r .column) j column),
-            ap₂ (λ (b d : Bool). cond (checkAt c (cellNumber c i j)) b d) (bit-none (checkIndex c (cellNumber c i j))) (ap (λ (t : ℕ). x (rank c t)) e)
-                ∙ ap₂ (λ (b : Bool) (t : ℕ). cond b false (x t)) (ap (checkAt c) n ∙ sym (at-check c F r A l)) (sym (A .place-is)),
+      only : (a b : ℕ) → a < c .n1 → b < c .n2 → cellNumber c a b ≡ t → (i ≡ a) × (j ≡ b)
+      only a b la lb e =
+          let m : cellNumber c i j ≡ cellNumber c a b = number ∙ sym e in (
+            sym (number-row c i j lj) ∙ ap (λ (t : ℕ). t / c .n2) m ∙ number-row c a b lb,
+            sym (number-column c i j lj) ∙ ap (λ (t : ℕ). t % c .n2) m ∙ number-column c a b lb,
           )
 
-      there : (i j : ℕ) → (eqb (r .row) i && eqb (r .column) j) ≡ true → dataOrder c (cellNumber c i j) ≡ r .cell
-      there i j e =
-          let row : r .row ≡ i = eqb-true (r .row) i (and-left (eqb (r .row) i) (eqb (r .column) j) e) in
-          let column : r .column ≡ j = eqb-true (r .column) j (and-right (eqb (r .row) i) (eqb (r .column) j) e) in
-          ap (dataOrder c) (sym (ap₂ (cellNumber c) row column) ∙ at-number c F r A l) ∙ order-twice c (r .cell) l
-
-  -- the same, of the bytes that the code holds
-  pub put-step : (k n2 t : ℕ) (bits old new : List ℕ) → k ≡ dataSize c → n2 ≡ c .n2 → r .cell ≡ t
-      → old ≡ bytesOf (c .n1) (c .n2) (putTo c (λ d. cellOf (dataSize c) bits 0 d) t) → new ≡ turnedIf (putBit k bits r) n2 old (r .row) (r .column)
-      → new ≡ bytesOf (c .n1) (c .n2) (putTo c (λ d. cellOf (dataSize c) bits 0 d) (t + 1))
-  put-step k n2 t bits old new ek en et eo e = e ∙ rw (ek, en, eo, ← et) (put-next (λ d. cellOf (dataSize c) bits 0 d))
-
--- ---- taking
-
-module _ (c : Code) (s : Cells) where
-  pub take-first : replicate (sheetBytes 1 (dataSize c)) 0 ≡ bytesOf 1 (dataSize c) (takenTo c s 0)
-  unfolding takenTo rank countBelow
-  take-first =
-      zeros-bytes 1 (dataSize c) (takenTo c s 0) (λ i d li ld. ap (λ (b : Bool). b && dataOf c s d) (le-ltb d 0 (omega arith)))
-
-  pub take-all : (F : Formed c) (t : ℕ) → t ≡ c .n1 * c .n2 → bytesOf 1 (dataSize c) (takenTo c s t) ≡ bytesOf 1 (dataSize c) (λ i d. dataOf c s d)
-  unfolding takenTo rank dataAt
-  take-all F t e =
-      bytes-equal 1 (dataSize c) (takenTo c s t) (λ i d. dataOf c s d)
-      (λ i d li ld.
-      let n : rank c t ≡ dataSize c = ap (rank c) e ∙ data-count c F in
-      ap (λ (b : Bool). b && dataOf c s d) (lt-ltb d (rank c t) (omega arith)))
-
-module _ (c : Code) (F : Formed c) (r : Cursor) (A : At c r) (l : r .cell < c .n1 * c .n2) where
-  pub take-next : (s : Cells)
-      → turnedIf (cond (atCheck r) false (s (r .row) (r .column))) (dataSize c) (bytesOf 1 (dataSize c) (takenTo c s (r .cell))) 0 (r .place)
-      ≡ bytesOf 1 (dataSize c) (takenTo c s (r .cell + 1))
-  unfolding takenTo
-  take-next s = go (atCheck r) refl
+  take-next : (F : Formed c) (s : Cells)
+      → turnedIf (s i j) (dataSize c) (bytesOf 1 (dataSize c) (takenTo c s t)) 0 d ≡ bytesOf 1 (dataSize c) (takenTo c s (t + 1))
+  unfolding dataOf cellNumber
+  take-next F s =
+      ap (λ (b : Bool). turnedIf b (dataSize c) (bytesOf 1 (dataSize c) (takenTo c s t)) 0 d) (sym held)
+      ∙ shown-next 1 (dataSize c) (λ i d. dataCell c d) (λ i d. dataOf c s d) 0 d t (omega arith) (rw bit-is (rank-below c F t on free)) there only
     where
-      go : (b : Bool) → atCheck r ≡ b
-          → turnedIf (cond b false (s (r .row) (r .column))) (dataSize c) (bytesOf 1 (dataSize c) (takenTo c s (r .cell))) 0 (r .place)
-          ≡ bytesOf 1 (dataSize c) (takenTo c s (r .cell + 1))
-      go true e =
-          bytes-equal 1 (dataSize c) (takenTo c s (r .cell)) (takenTo c s (r .cell + 1))
-          (λ i d li ld. ap (λ (t : ℕ). ltb d t && dataOf c s d) (sym (rank-kept c F r A l e)))
-      go false e =
-          turned-if-bytes 1 (dataSize c) (s (r .row) (r .column)) (takenTo c s (r .cell)) (takenTo c s (r .cell + 1)) 0 (r .place)
-          (λ b. omega arith) (λ b. at-below c F r A l e)
-          (λ i d li ld.
-          grow d (rank c (r .cell)) (s (r .row) (r .column)) (dataOf c s d) (eqb 0 i && eqb (r .place) d)
-          (λ q. (ap₂ _&&_ (eq-eqb 0 i (omega arith)) (eq-eqb (r .place) d (A .place-is ∙ sym q)), ap (dataOf c s) q ∙ at-bit c F r A l s e))
-          (λ h. not-true (eqb 0 i && eqb (r .place) d) (λ t. h (sym (eqb-true (r .place) d (and-right (eqb 0 i) (eqb (r .place) d) t)) ∙ A .place-is)))
-          ∙ ap (λ (t : ℕ). ltb d t && dataOf c s d) (sym (at-rank c F r A l e)))
+      on : t < c .n1 * c .n2
+      on = let m : cellNumber c i j < c .n1 * c .n2 = number-on c i j lj li in omega arith
 
-  pub take-step : (k n2 t : ℕ) (sheet old new : List ℕ) → k ≡ dataSize c → n2 ≡ c .n2 → r .cell ≡ t
-      → old ≡ bytesOf 1 (dataSize c) (takenTo c (cellOf (c .n2) sheet) t) → new ≡ turnedIf (takeBit n2 sheet r) k old 0 (r .place)
-      → new ≡ bytesOf 1 (dataSize c) (takenTo c (cellOf (c .n2) sheet) (t + 1))
-  take-step k n2 t sheet old new ek en et eo e = e ∙ rw (ek, en, eo, ← et) (take-next (cellOf (c .n2) sheet))
+      there : dataCell c d ≡ t
+      there = ap (dataCell c) bit-is ∙ rank-data c F t on free
+
+      held : dataOf c s d ≡ s i j
+      held =
+          let m : dataCell c d ≡ cellNumber c i j = there ∙ sym number in
+          ap₂ s (ap (λ (t : ℕ). t / c .n2) m ∙ number-row c i j lj) (ap (λ (t : ℕ). t % c .n2) m ∙ number-column c i j lj)
+
+      only : (a e : ℕ) → a < 1 → e < dataSize c → dataCell c e ≡ t → (0 ≡ a) × (d ≡ e)
+      only a e la le q = (omega arith, bit-is ∙ ap (λ (t : ℕ). rank c (dataOrder c t)) (sym q) ∙ data-rank c F e le)
+
+-- ---- a run
+
+module _ (c : Code) (F : Formed c) (r : Cursor) (A : At c r) (l : r .row < c .n1) where
+  next-number : (j : ℕ) → r .cell + j + 1 ≡ r .cell + suc j
+  next-number j = add-one (r .cell + j) ∙ sym (add-suc (r .cell) j)
+
+  put-run : (x : Bits) (k : ℕ) (bits sheet : List ℕ) → ((d : ℕ) → cellOf k bits 0 d ≡ x d) → sheet ≡ bytesOf (c .n1) (c .n2) (putTo c x (r .cell))
+      → (j : ℕ) → j ≤ runLength (c .n2) r → putRun j k bits (c .n2) sheet r ≡ bytesOf (c .n1) (c .n2) (putTo c x (r .cell + j))
+  unfolding putRun
+  put-run x k bits sheet ex e zero b = e ∙ ap (λ (t : ℕ). bytesOf (c .n1) (c .n2) (putTo c x t)) (sym (add-zero (r .cell)))
+  put-run x k bits sheet ex e (suc j) b =
+      let w = run-column c F r A l in
+      ap₂ (λ (d : Bool) (s : List ℕ). turnedIf d (c .n2) s (r .row) (r .column + j)) (ex (bitAt r j)) (put-run x k bits sheet ex e j (omega arith))
+      ∙ put-next c (r .row) (r .column + j) (r .cell + j) (bitAt r j) l (omega arith) (omega (arith, A .number)) (run-free c F r A l j (omega arith))
+      (run-bit c F r A l j (omega arith)) x
+      ∙ ap (λ (t : ℕ). bytesOf (c .n1) (c .n2) (putTo c x t)) (next-number j)
+
+  take-run : (s : Cells) (sheet bits : List ℕ) → ((i j : ℕ) → cellOf (c .n2) sheet i j ≡ s i j) → bits ≡ bytesOf 1 (dataSize c) (takenTo c s (r .cell))
+      → (j : ℕ) → j ≤ runLength (c .n2) r → takeRun j (c .n2) sheet (dataSize c) bits r ≡ bytesOf 1 (dataSize c) (takenTo c s (r .cell + j))
+  unfolding takeRun
+  take-run s sheet bits es e zero b = e ∙ ap (λ (t : ℕ). bytesOf 1 (dataSize c) (takenTo c s t)) (sym (add-zero (r .cell)))
+  take-run s sheet bits es e (suc j) b =
+      let w = run-column c F r A l in
+      ap₂ (λ (d : Bool) (b : List ℕ). turnedIf d (dataSize c) b 0 (bitAt r j)) (es (r .row) (r .column + j)) (take-run s sheet bits es e j (omega arith))
+      ∙ take-next c (r .row) (r .column + j) (r .cell + j) (bitAt r j) l (omega arith) (omega (arith, A .number)) (run-free c F r A l j (omega arith))
+      (run-bit c F r A l j (omega arith)) F s
+      ∙ ap (λ (t : ℕ). bytesOf 1 (dataSize c) (takenTo c s t)) (next-number j)
+
+  -- to the cursor's next stand, of the bytes that the code holds
+  module _ (r' : Cursor) (S : Stepped c r r') (k n2 len : ℕ) (ek : k ≡ dataSize c) (en : n2 ≡ c .n2) (el : len ≡ runLength (c .n2) r) where
+    pub put-step : (bits old new : List ℕ) → old ≡ bytesOf (c .n1) (c .n2) (putTo c (λ d. cellOf (dataSize c) bits 0 d) (r .cell))
+        → new ≡ putRun len k bits n2 old r → new ≡ bytesOf (c .n1) (c .n2) (putTo c (λ d. cellOf (dataSize c) bits 0 d) (r' .cell))
+    put-step bits old new eo e =
+        e ∙ rw (en, el) (put-run (λ d. cellOf (dataSize c) bits 0 d) k bits old (λ d. rw ek) eo (runLength (c .n2) r) (omega arith))
+        ∙ put-checks c (λ d. cellOf (dataSize c) bits 0 d) (r .cell + runLength (c .n2) r) (r' .cell) (S .past) (S .checks)
+
+    pub take-step : (sheet old new : List ℕ) → old ≡ bytesOf 1 (dataSize c) (takenTo c (cellOf (c .n2) sheet) (r .cell))
+        → new ≡ takeRun len n2 sheet k old r → new ≡ bytesOf 1 (dataSize c) (takenTo c (cellOf (c .n2) sheet) (r' .cell))
+    take-step sheet old new eo e =
+        e ∙ rw (en, el, ek) (take-run (cellOf (c .n2) sheet) sheet old (λ i j. refl) eo (runLength (c .n2) r) (omega arith))
+        ∙ take-checks c F (cellOf (c .n2) sheet) (r .cell + runLength (c .n2) r) (r' .cell) (S .past) (S .checks)

@@ -2,11 +2,13 @@
 --
 --   pair-most     the number of a pair of 16-bit numbers fits
 --   place-inside  the byte of a data bit stands in the data
+--   rows-next     the cells of one row more
 --
 -- Assumes nothing.
-use mathlib.Core.Path.{_≡_}
-use Prim.Native.Nat.{ℕ, _*_, _≤_, _<_}
-use native.Mathlib.Nat.{mul-le-mul}
+use mathlib.Core.Path.{_≡_, ap, _∙_}
+use Prim.Native.Nat.{ℕ, _+_, _*_, _≤_, _<_}
+use native.Mathlib.Nat.{mul-le-mul, suc-mul}
+use native.Mathlib.Numerals.{add-one}
 use native.Mathlib.Omega.{arith}
 use Rattle.layout.specs.Cells.{rowBytes, sheetBytes, byteOf}
 use Rattle.layout.proofs.Form.{byte-inside, row-sheet}
@@ -21,3 +23,6 @@ place-inside k d n e l =
     let b : byteOf k 0 d < sheetBytes 1 k = byte-inside k d l 1 0 (omega arith) in
     let f : sheetBytes 1 k ≡ rowBytes k = row-sheet k in
     omega arith
+
+pub rows-next : (i n : ℕ) → (i + 1) * n ≡ i * n + n
+rows-next i n = ap (λ (x : ℕ). x * n) (add-one i) ∙ suc-mul i n

@@ -1,211 +1,223 @@
--- Where a cursor stands, and its step:
+-- Where a cursor stands, its run, and its step:
 --
---   next-here, next-past      the next check cell, or the number of cells past the list
---   at-row, at-number         the cursor's cell is on the sheet, and is the cell of its place
---   at-check                  it is a check cell exactly where it is the next one of the list
---   check-left                at a check cell the list has one left
---   at-most                   no more data bits than places stand before it
---   at-rank, at-below, at-bit at a data cell: one data bit more, its number, and its value
---   at-begin, at-pass, at-fill   the cursor at the first place, and after a check cell and a data cell
+--   at-begin, past-end        the cursor at the first cell, and past the last row
+--   at-most, at-ahead         its cell is no further than the end of the sheet, nor than the next check cell
+--   run-column, run-next      the run ends where the row ends, or earlier, and at the next check cell, or earlier
+--   run-place                 the data cells before a cell of the run
+--   run-free, run-bit         a cell of the run is no check cell, and its data bit is the one that bitAt tells
+--   run-room, run-on, run-below   the bit is one of the row's, the cell one of the sheet's, the bit one of the data's
+--   past-most, place-most                 past the run one is still on the sheet
+--   row-start, row-checks, step-row       past the run, where the row ends
+--   at-next, check-left, step-check       past the run, where the row goes on: the run ends at a check cell
 --
 -- Assumes nothing.
 use mathlib.Core.Path.{_≡_, refl, sym, ap, _∙_}
 use mathlib.Core.Bool.{Bool, true, false, cond, not}
-use Prim.Native.Nat.{ℕ, _+_, _*_, _≤_, _<_}
-use native.Mathlib.Nat.{mul-le-mul-right, add-mul, one-mul, zero-mul}
-use native.Mathlib.Numerals.{add-one}
-use native.Mathlib.Decide.{ℕ-discrete, decLt}
+use Prim.Native.Nat.{ℕ, _+_, _-_, _*_, _≤_, _<_}
+use native.Mathlib.Nat.{mul-le-mul-right, zero-mul}
 use native.Mathlib.Omega.{arith}
-use borrow.Author.Tests.{eqb-true, eqb-false, eq-eqb, ne-eqb, lt-ltb, le-ltb}
-use lib.Dec.{eqb}
 use Rattle.finite.specs.Search.{countBelow}
-use Rattle.finite.proofs.Truth.{not-true}
-use Rattle.finite.proofs.Count.{count-le}
-use Rattle.boxcode.specs.Code.{Code, Formed, cellNumber}
-use Rattle.boxcode.specs.Syndrome.{Cells}
-use Rattle.boxcode.specs.Check.{checkNumber, checkAt, dataOrder, dataSize, rank, dataOf}
-use Rattle.boxcode.proofs.Check.{order-below, order-twice, check-rise, check-here, check-found, rank-below}
-use Rattle.boxcode.proofs.Fill.{cell-data}
+use Rattle.finite.proofs.Count.{count-rise}
+use Rattle.boxcode.specs.Code.{Code, Formed}
+use Rattle.boxcode.specs.Check.{checkAt, runsDown, dataOrder, dataSize, rank}
+use Rattle.boxcode.proofs.Check.{rank-below}
 use Rattle.payload.specs.declared.cursor.Cursor.{Cursor}
-use Rattle.payload.specs.Walk.{nextCheck, atCheck, At}
-use Rattle.payload.proofs.Order.{order-is}
+use Rattle.payload.specs.Walk.{checksBefore, dataBefore, nextCheck, rowEnds, runLength, dataBit, bitAt, At, Stepped}
+use Rattle.payload.proofs.Size.{rows-next}
+use Rattle.payload.proofs.Before.{both-before, next-ahead, next-kept, next-free, next-left, next-check, next-passed}
+use Rattle.payload.proofs.Order.{rank-up, rank-down}
 
--- ---- the check list
+pub at-begin : (c : Code) (next ends : ℕ) → next ≡ nextCheck c 0 → ends ≡ rowEnds c 0
+    → At c (record { cell = 0; row = 0; column = 0; place = 0; check = 0; next = next; ends = ends })
+unfolding checksBefore dataBefore countBelow
+at-begin c next ends en ee = record {
+  row-most = omega arith;
+  column-most = omega arith;
+  number = let z : 0 * c .n2 ≡ 0 = zero-mul (c .n2) in omega arith;
+  place-is = refl;
+  check-is = refl;
+  next-is = en;
+  ends-is = ee;
+}
 
-module _ (c : Code) where
-  pub next-here : (q : ℕ) → q < c .rv + c .rh → nextCheck c q ≡ checkNumber c q
-  unfolding nextCheck
-  next-here q l = rw (lt-ltb q (c .rv + c .rh) l)
+-- past the last row no cell is left
+pub past-end : (c : Code) (r : Cursor) → At c r → c .n1 ≤ r .row → c .n1 * c .n2 ≤ r .cell
+past-end c r A l = let m : c .n1 * c .n2 ≤ r .row * c .n2 = mul-le-mul-right (c .n2) l in omega (arith, A .number)
 
-  pub next-past : (q : ℕ) → c .rv + c .rh ≤ q → nextCheck c q ≡ c .n1 * c .n2
-  unfolding nextCheck
-  next-past q l = rw (le-ltb q (c .rv + c .rh) l)
+module _ (c : Code) (F : Formed c) (r : Cursor) (A : At c r) (l : r .row < c .n1) where
+  row-cells : (r .row + 1) * c .n2 ≤ c .n1 * c .n2
+  row-cells = mul-le-mul-right (c .n2) (omega arith)
 
-  -- ---- the first place
+  pub at-most : r .cell ≤ c .n1 * c .n2
+  at-most = let m = row-cells in let n = rows-next (r .row) (c .n2) in omega (arith, A .number, A .column-most)
 
-  pub at-begin : (next : ℕ) → next ≡ nextCheck c 0 → 0 < c .n2 → At c (record { cell = 0; row = 0; column = 0; place = 0; check = 0; next = next })
-  unfolding rank countBelow
-  at-begin next e p = record {
-    cell-most = omega arith;
-    column-in = p;
-    number = let z : 0 * c .n2 ≡ 0 = zero-mul (c .n2) in omega arith;
-    place-is = refl;
-    check-most = omega arith;
-    before = λ k h. absurd (omega arith);
-    next-is = e;
-    ahead = omega arith;
-  }
+  pub at-ahead : r .cell ≤ r .next
+  at-ahead = rw (A .next-is) (next-ahead c F (r .cell) (r .check) (A .check-is) at-most)
 
-module _ (c : Code) (F : Formed c) where
-  -- ---- where the cursor stands
+  pub run-column : r .column + runLength (c .n2) r ≤ c .n2
+  unfolding runLength
+  run-column = omega (arith, A .column-most)
 
-  module _ (r : Cursor) (A : At c r) (l : r .cell < c .n1 * c .n2) where
-    pub at-row : r .row < c .n1
-    at-row = go (decLt (r .row) (c .n1))
+  pub run-next : r .cell + runLength (c .n2) r ≤ r .next
+  unfolding runLength
+  run-next = let a = at-ahead in omega arith
+
+  module _ (j : ℕ) (b : j ≤ runLength (c .n2) r) where
+    near : r .cell + j ≤ nextCheck c (r .check)
+    near = let e = run-next in let n = A .next-is in omega arith
+
+    run-check : r .check ≡ checksBefore c (r .cell + j)
+    run-check = next-kept c F (r .cell) (r .check) (A .check-is) (r .cell + j) (omega arith) near
+
+    run-place : r .place + j ≡ dataBefore c (r .cell + j)
+    run-place =
+        let e = run-check in
+        let s = both-before c (r .cell) in
+        let t = both-before c (r .cell + j) in
+        omega (arith, A .check-is, A .place-is)
+
+  -- ---- a cell of the run
+
+  module _ (j : ℕ) (b : j < runLength (c .n2) r) where
+    pub run-free : checkAt c (r .cell + j) ≡ false
+    run-free =
+        let e = run-next in
+        let n = A .next-is in
+        next-free c F (r .cell) (r .check) (A .check-is) (r .cell + j) (omega arith) (omega arith)
+
+    inside : r .column + j < c .n2
+    inside = let m = run-column in omega arith
+
+    -- by row and column
+    same : r .row * c .n2 + (r .column + j) ≡ r .cell + j
+    same = omega (arith, A .number)
+
+    free : checkAt c (r .row * c .n2 + (r .column + j)) ≡ false
+    free = ap (checkAt c) same ∙ run-free
+
+    before : r .place + j ≡ dataBefore c (r .row * c .n2 + (r .column + j))
+    before = run-place j (omega arith) ∙ ap (dataBefore c) (sym same)
+
+    pub run-room : r .place + j < r .ends
+    unfolding rowEnds dataBefore
+    run-room =
+        let t = r .row * c .n2 + (r .column + j) in
+        let n = rows-next (r .row) (c .n2) in
+        let i = inside in
+        let u : dataBefore c t < dataBefore c ((r .row + 1) * c .n2) =
+        count-rise t ((r .row + 1) * c .n2) (λ u. not (checkAt c u)) (ap not free) (omega arith) in
+        let p = before in
+        omega (arith, A .ends-is)
+
+    pub run-bit : bitAt r j ≡ rank c (dataOrder c (r .cell + j))
+    unfolding dataBit
+    run-bit = go (runsDown (r .row)) refl ∙ ap (λ (t : ℕ). rank c (dataOrder c t)) same
       where
-        go : Dec (r .row < c .n1) → r .row < c .n1
-        go (yes h) = h
-        go (no h) =
-            let m : c .n1 * c .n2 ≤ r .row * c .n2 = mul-le-mul-right (c .n2) (omega arith) in
-            let e = A .number in
-            absurd (omega arith)
+        go : (b : Bool) → runsDown (r .row) ≡ b
+            → cond b (r .ends - (r .place + j + 1)) (r .place + j) ≡ rank c (dataOrder c (r .row * c .n2 + (r .column + j)))
+        go true o =
+            let e = rank-down c (r .row) (r .column + j) inside o free in
+            let p = before in
+            omega (arith, A .ends-is)
+        go false o = before ∙ sym (rank-up c (r .row) (r .column + j) inside o)
 
-    pub at-number : cellNumber c (r .row) (r .column) ≡ dataOrder c (r .cell)
-    unfolding cellNumber
-    at-number = A .number ∙ order-is c (r .cell)
+    run-on : r .cell + j < c .n1 * c .n2
+    run-on = let m = row-cells in let n = rows-next (r .row) (c .n2) in let i = inside in omega (arith, A .number)
 
-    pub check-left : r .cell ≡ r .next → r .check < c .rv + c .rh
-    check-left e = go (decLt (r .check) (c .rv + c .rh))
-      where
-        go : Dec (r .check < c .rv + c .rh) → r .check < c .rv + c .rh
-        go (yes h) = h
-        go (no h) =
-            let n : r .next ≡ c .n1 * c .n2 = A .next-is ∙ next-past c (r .check) (omega arith) in
-            absurd (omega arith)
-
-    pub at-check : atCheck r ≡ checkAt c (dataOrder c (r .cell))
-    at-check = go (ℕ-discrete (r .cell) (r .next)) ∙ ap (checkAt c) (order-is c (r .cell))
-      where
-        go : Dec (r .cell ≡ r .next) → eqb (r .cell) (r .next) ≡ checkAt c (r .cell)
-        go (yes e) =
-            let h = check-left e in
-            eq-eqb (r .cell) (r .next) e
-            ∙ sym (ap (checkAt c) (e ∙ A .next-is ∙ next-here c (r .check) h) ∙ check-here c F (r .check) h)
-        go (no ne) = ne-eqb (r .cell) (r .next) ne ∙ sym (not-true (checkAt c (r .cell)) none)
-          where
-            none : checkAt c (r .cell) ≡ true → ⊥
-            none t = listed (w .0) (w .1) (w .2) (decLt (w .0) (r .check)) (ℕ-discrete (w .0) (r .check))
-              where
-                w : (k : ℕ) × (k < c .rv + c .rh) × (checkNumber c k ≡ r .cell)
-                w = check-found c F (r .cell) t
-
-                listed : (k : ℕ) → k < c .rv + c .rh → checkNumber c k ≡ r .cell → Dec (k < r .check) → Dec (k ≡ r .check) → ⊥
-                listed k lk e (yes h) d = let b : checkNumber c k < r .cell = A .before k h in omega arith
-                listed k lk e (no h) (yes q) =
-                    let n : r .next ≡ checkNumber c k = A .next-is ∙ next-here c (r .check) (omega arith) ∙ ap (checkNumber c) (sym q) in
-                    ne (sym e ∙ sym n)
-                listed k lk e (no h) (no q) =
-                    let n : r .next ≡ checkNumber c (r .check) = A .next-is ∙ next-here c (r .check) (omega arith) in
-                    let u : checkNumber c (r .check) < checkNumber c k = check-rise c F (r .check) k (omega arith) lk in
-                    let a = A .ahead in
-                    omega arith
-
-    rank-more : rank c (r .cell + 1) ≡ rank c (r .cell) + cond (not (atCheck r)) 1 0
-    unfolding rank countBelow
-    rank-more = rw (at-check, add-one)
-
-    pub rank-kept : atCheck r ≡ true → rank c (r .cell + 1) ≡ rank c (r .cell)
-    rank-kept e = rank-more ∙ ap (λ (b : Bool). rank c (r .cell) + cond (not b) 1 0) e ∙ omega arith
-
-    pub at-rank : atCheck r ≡ false → rank c (r .cell + 1) ≡ rank c (r .cell) + 1
-    at-rank e = rank-more ∙ ap (λ (b : Bool). rank c (r .cell) + cond (not b) 1 0) e
-
-    back : dataOrder c (dataOrder c (r .cell)) ≡ r .cell
-    back = order-twice c (r .cell) l
-
-    pub at-below : atCheck r ≡ false → r .place < dataSize c
-    at-below e =
-        let b : rank c (dataOrder c (dataOrder c (r .cell))) < dataSize c =
-        rank-below c F (dataOrder c (r .cell)) (order-below c (r .cell) l) (sym at-check ∙ e) in
-        let q : rank c (dataOrder c (dataOrder c (r .cell))) ≡ rank c (r .cell) = ap (rank c) back in
-        let p = A .place-is in
+    pub run-below : bitAt r j < dataSize c
+    run-below =
+        let e = run-bit in
+        let b : rank c (dataOrder c (r .cell + j)) < dataSize c = rank-below c F (r .cell + j) run-on run-free in
         omega arith
 
-    pub at-bit : (s : Cells) → atCheck r ≡ false → dataOf c s (rank c (r .cell)) ≡ s (r .row) (r .column)
-    at-bit s e =
-        sym (cell-data c F s (r .row) (r .column) at-row (A .column-in) (ap (checkAt c) at-number ∙ sym at-check ∙ e)
-        ∙ ap (λ (t : ℕ). dataOf c s (rank c t)) (ap (dataOrder c) at-number ∙ back))
+  -- ---- past the run
 
-  -- ---- the steps
+  module _ (len : ℕ) (el : len ≡ runLength (c .n2) r) where
+    past-check : r .check ≡ checksBefore c (r .cell + len)
+    past-check = run-check len (omega arith)
 
-  pub at-most : (r : Cursor) → At c r → r .place ≤ r .cell
-  unfolding rank
-  at-most r A =
-      let n : countBelow (r .cell) (λ u. not (checkAt c (dataOrder c u))) ≤ r .cell = count-le (r .cell) (λ u. not (checkAt c (dataOrder c u))) in
-      let e = A .place-is in
-      omega arith
+    past-place : r .place + len ≡ dataBefore c (r .cell + len)
+    past-place = run-place len (omega arith)
 
-  -- the cell after a cell
-  pub moved : (row column cell : ℕ) → column < c .n2 → row * c .n2 + column ≡ cell
-      → (cond (eqb (column + 1) (c .n2)) (row + 1) row * c .n2 + cond (eqb (column + 1) (c .n2)) 0 (column + 1) ≡ cell + 1)
-      × (cond (eqb (column + 1) (c .n2)) 0 (column + 1) < c .n2)
-  moved row column cell l e = go (eqb (column + 1) (c .n2)) refl
-    where
-      go : (b : Bool) → eqb (column + 1) (c .n2) ≡ b
-          → (cond b (row + 1) row * c .n2 + cond b 0 (column + 1) ≡ cell + 1) × (cond b 0 (column + 1) < c .n2)
-      go true q =
-          let w : column + 1 ≡ c .n2 = eqb-true (column + 1) (c .n2) q in
-          let m : (row + 1) * c .n2 ≡ row * c .n2 + 1 * c .n2 = add-mul row 1 (c .n2) in
-          let o : 1 * c .n2 ≡ c .n2 = one-mul (c .n2) in
-          (omega arith, omega arith)
-      go false q = let w = eqb-false (column + 1) (c .n2) q in (omega arith, omega arith)
+    pub past-most : r .cell + len ≤ c .n1 * c .n2
+    past-most = let d = run-column in let m = row-cells in let n = rows-next (r .row) (c .n2) in omega (arith, A .number)
 
-  module _ (r : Cursor) (A : At c r) (l : r .cell < c .n1 * c .n2) (row column : ℕ)
-      (er : row ≡ cond (eqb (r .column + 1) (c .n2)) (r .row + 1) (r .row)) (ec : column ≡ cond (eqb (r .column + 1) (c .n2)) 0 (r .column + 1)) where
-    next-number : row * c .n2 + column ≡ r .cell + 1
-    next-number = rw (er, ec) (moved (r .row) (r .column) (r .cell) (A .column-in) (A .number) .0)
+    pub place-most : r .place + len ≤ c .n1 * c .n2
+    place-most = let m = past-most in let p = past-place in let s = both-before c (r .cell + len) in omega arith
 
-    next-column : column < c .n2
-    next-column = rw ec (moved (r .row) (r .column) (r .cell) (A .column-in) (A .number) .1)
+    row-start : r .column + len ≡ c .n2 → r .cell + len ≡ (r .row + 1) * c .n2
+    row-start e = let n = rows-next (r .row) (c .n2) in omega (arith, A .number)
 
-    pub at-pass : (next : ℕ) → r .cell ≡ r .next → next ≡ nextCheck c (r .check + 1)
-        → At c (record { cell = r .cell + 1; row = row; column = column; place = r .place; check = r .check + 1; next = next })
-    at-pass next e en =
-        let left : r .check < c .rv + c .rh = check-left r A l e in
-        let here : r .cell ≡ checkNumber c (r .check) = e ∙ A .next-is ∙ next-here c (r .check) left in
-        record {
-          cell-most = omega arith;
-          column-in = next-column;
-          number = next-number;
-          place-is = A .place-is ∙ sym (rank-kept r A l (eq-eqb (r .cell) (r .next) e));
-          check-most = omega arith;
-          before = λ k h. earlier here k h (ℕ-discrete k (r .check));
-          next-is = en;
-          ahead = further here left (decLt (r .check + 1) (c .rv + c .rh));
-        }
-      where
-        earlier : r .cell ≡ checkNumber c (r .check) → (k : ℕ) → k < r .check + 1 → Dec (k ≡ r .check) → checkNumber c k < r .cell + 1
-        earlier here k h (yes q) = let s : checkNumber c k ≡ checkNumber c (r .check) = ap (checkNumber c) q in omega arith
-        earlier here k h (no q) = let b : checkNumber c k < r .cell = A .before k (omega arith) in omega arith
+    pub row-checks : r .column + len ≡ c .n2 → r .check ≡ checksBefore c ((r .row + 1) * c .n2)
+    row-checks e = past-check ∙ ap (checksBefore c) (row-start e)
 
-        further : r .cell ≡ checkNumber c (r .check) → r .check < c .rv + c .rh → Dec (r .check + 1 < c .rv + c .rh) → r .cell + 1 ≤ next
-        further here left (yes h) =
-            let n : next ≡ checkNumber c (r .check + 1) = en ∙ next-here c (r .check + 1) h in
-            let u : checkNumber c (r .check) < checkNumber c (r .check + 1) = check-rise c F (r .check) (r .check + 1) (omega arith) h in
-            omega arith
-        further here left (no h) =
-            let n : next ≡ c .n1 * c .n2 = en ∙ next-past c (r .check + 1) (omega arith) in
-            omega arith
-
-    pub at-fill : (r .cell ≡ r .next → ⊥)
-        → At c (record { cell = r .cell + 1; row = row; column = column; place = r .place + 1; check = r .check; next = r .next })
-    at-fill ne = record {
-      cell-most = omega arith;
-      column-in = next-column;
-      number = next-number;
-      place-is = ap (λ (x : ℕ). x + 1) (A .place-is) ∙ sym (at-rank r A l (ne-eqb (r .cell) (r .next) ne));
-      check-most = A .check-most;
-      before = λ k h. let b : checkNumber c k < r .cell = A .before k h in omega arith;
-      next-is = A .next-is;
-      ahead = let a = A .ahead in omega arith;
+    pub step-row : (ends : ℕ) → r .column + len ≡ c .n2 → ends ≡ rowEnds c (r .row + 1)
+        → Stepped c r
+        (record { cell = r .cell + len; row = r .row + 1; column = 0; place = r .place + len; check = r .check; next = r .next; ends = ends })
+    step-row ends e ee = record {
+      at = record {
+        row-most = omega arith;
+        column-most = omega arith;
+        number = let s = row-start e in omega arith;
+        place-is = past-place;
+        check-is = past-check;
+        next-is = A .next-is;
+        ends-is = ee;
+      };
+      on = omega arith;
+      past = omega arith;
+      checks = λ t u v. absurd (omega arith);
     }
+
+    -- where the row goes on, the run ends at the next check cell
+    module _ (ne : r .column + len ≡ c .n2 → ⊥) where
+      pub at-next : r .cell + len ≡ r .next
+      unfolding runLength
+      at-next = let a = at-ahead in omega (arith, A .column-most)
+
+      next-on : r .next < c .n1 * c .n2
+      next-on =
+          let e = at-next in
+          let d = run-column in
+          let m = row-cells in
+          let n = rows-next (r .row) (c .n2) in
+          omega (arith, A .number)
+
+      pub check-left : r .check < c .rv + c .rh
+      check-left = next-left c F (r .check) (r .next) (A .next-is) next-on
+
+      pub step-check : (next : ℕ) → next ≡ nextCheck c (r .check + 1)
+          → Stepped c r (record {
+            cell = r .next + 1;
+            row = r .row;
+            column = r .column + len + 1;
+            place = r .place + len;
+            check = r .check + 1;
+            next = next;
+            ends = r .ends;
+          })
+      step-check next en =
+          let e = at-next in
+          let d = run-column in
+          let k : r .check + 1 ≡ checksBefore c (r .next + 1) =
+          next-passed c F (r .check) (r .next) (A .next-is) next-on (past-check ∙ ap (checksBefore c) e) in
+          let s = both-before c (r .cell + len) in
+          let t = both-before c (r .next + 1) in
+          let p = past-place in
+          let q = past-check in
+          record {
+            at = record {
+              row-most = omega arith;
+              column-most = omega arith;
+              number = omega (arith, A .number);
+              place-is = omega arith;
+              check-is = k;
+              next-is = en;
+              ends-is = A .ends-is;
+            };
+            on = omega arith;
+            past = omega arith;
+            checks = λ t u v.
+                let z : t ≡ r .next = omega arith in
+                ap (checkAt c) z ∙ next-check c F (r .check) (r .next) (A .next-is) next-on;
+          }

@@ -1,17 +1,17 @@
-// A cursor over the cells in the order of the data.
+// A cursor over the sheet from run to run: a run is the data cells of a row up to a check cell or the end of the row.
 ghost use mathlib.Core.Path.{_≡_};
-ghost use mathlib.Core.Bool.{cond};
 ghost use Prim.Native.Nat.{_+_, _*_, _≤_, _<_};
-ghost use lib.Dec.{eqb};
 ghost use Rattle.boxcode.specs.Code.{Formed};
 ghost use Rattle.plan.specs.Header.{Framed};
 ghost use Rattle.plan.specs.Bytes.{codeWith};
-ghost use Rattle.payload.specs.Walk.{nextCheck, At, Begun, Stepped};
+ghost use Rattle.payload.specs.Walk.{checksBefore, nextCheck, rowEnds, runLength, dataBit, At, Begun, Stepped};
+use layout::compare::smaller;
 use plan::entry::check_cell;
 use plan::header::Header;
 
-// Place number `cell` of the data's order, the cell (row, column) that stands there, the number of data bits before
-// it, the number of check cells before it, and the number of the next check cell.
+// The cell (row, column), its number in sheet order, the number of data cells and of check cells before it in sheet order,
+// the number of the next check cell, and the data cells before its row and before the next row, added. Past the last cell
+// of a row, column is the number of columns.
 pub struct Cursor {
     pub cell: usize,
     pub row: usize,
@@ -19,6 +19,7 @@ pub struct Cursor {
     pub place: usize,
     pub check: usize,
     pub next: usize,
+    pub ends: usize,
 }
 
 // The number of check cell q, or that of all cells where q is past the list.
@@ -34,31 +35,39 @@ fn next_check(plan: &[u8], h: Header, q: usize) -> usize
     cell.row * h.n2 + cell.column
 }
 
-// The row of the cell after a cell.
-fn row_after(row: usize, column: usize, n2: usize) -> usize
-    requires { ⌜ (row < 1000000) × (column < n2) × (n2 < 1000000) ⌝ }
-    ensures { λ r. ⌜ r ≡ cond (eqb (column + 1) n2) (row + 1) row ⌝ }
+// The check cells of the rows up to and with a row, from those of the rows before it.
+fn checks_past(plan: &[u8], h: Header, row: usize, check: usize) -> usize
+    requires { ⌜ Framed (now plan) h ⌝ }
+    requires { ⌜ Formed (codeWith (now plan) h) ⌝ }
+    requires { ⌜ check ≡ checksBefore (codeWith (now plan) h) (row * h .n2) ⌝ }
+    ensures { λ r. ⌜ r ≡ checksBefore (codeWith (now (plan .entry)) h) ((row + 1) * h .n2) ⌝ }
 {
-    if column + 1 == n2 {
-        return row + 1;
+    let mut q = check;
+    while q < h.rv + h.rh {
+        if row < check_cell(plan, h, q).row {
+            return q;
+        }
+        q += 1;
     }
-    row
+    q
 }
 
-// The column of the cell after a cell.
-fn column_after(column: usize, n2: usize) -> usize
-    requires { ⌜ (column < n2) × (n2 < 1000000) ⌝ }
-    ensures { λ r. ⌜ r ≡ cond (eqb (column + 1) n2) 0 (column + 1) ⌝ }
+// The data cells before a row and before the next row, added.
+fn row_ends(plan: &[u8], h: Header, row: usize, check: usize) -> usize
+    requires { ⌜ Framed (now plan) h ⌝ }
+    requires { ⌜ Formed (codeWith (now plan) h) ⌝ }
+    requires { ⌜ row ≤ h .n1 ⌝ }
+    requires { ⌜ check ≡ checksBefore (codeWith (now plan) h) (row * h .n2) ⌝ }
+    ensures { λ r. ⌜ r ≡ rowEnds (codeWith (now (plan .entry)) h) row ⌝ }
 {
-    if column + 1 == n2 {
-        return 0;
-    }
-    column + 1
+    let past = checks_past(plan, h, row, check);
+    (row * h.n2 - check) + ((row + 1) * h.n2 - past)
 }
 
-// At the first place.
+// At the first cell.
 pub fn start(plan: &[u8], h: Header) -> Cursor
     requires { ⌜ Framed (now plan) h ⌝ }
+    requires { ⌜ Formed (codeWith (now plan) h) ⌝ }
     ensures { λ r. ⌜ Begun (codeWith (now (plan .entry)) h) r ⌝ }
 {
     Cursor {
@@ -68,36 +77,58 @@ pub fn start(plan: &[u8], h: Header) -> Cursor
         place: 0,
         check: 0,
         next: next_check(plan, h, 0),
+        ends: row_ends(plan, h, 0, 0),
     }
 }
 
-// To the next place.
-pub fn step(plan: &[u8], h: Header, at: Cursor) -> Cursor
+// How many data cells stand from a cursor to the next check cell or the end of the row.
+pub fn run(at: Cursor, n2: usize) -> usize
+    requires { ⌜ (at .cell ≤ at .next) × (at .column ≤ n2) ⌝ }
+    ensures { λ r. ⌜ r ≡ runLength n2 at ⌝ }
+{
+    smaller(at.next - at.cell, n2 - at.column)
+}
+
+// Past a run: to the next row at the end of a row, else past the check cell that ends the run.
+pub fn step(plan: &[u8], h: Header, at: Cursor, len: usize) -> Cursor
     requires { ⌜ Framed (now plan) h ⌝ }
     requires { ⌜ Formed (codeWith (now plan) h) ⌝ }
     requires { ⌜ At (codeWith (now plan) h) at ⌝ }
-    requires { ⌜ at .cell < h .n1 * h .n2 ⌝ }
+    requires { ⌜ at .row < h .n1 ⌝ }
+    requires { ⌜ len ≡ runLength (h .n2) at ⌝ }
     ensures { λ r. ⌜ Stepped (codeWith (now (plan .entry)) h) at r ⌝ }
 {
-    let row = row_after(at.row, at.column, h.n2);
-    let column = column_after(at.column, h.n2);
-    if at.cell == at.next {
-        let check = at.check + 1;
+    if at.column + len == h.n2 {
         return Cursor {
-            cell: at.cell + 1,
-            row,
-            column,
-            place: at.place,
-            check,
-            next: next_check(plan, h, check),
+            cell: at.cell + len,
+            row: at.row + 1,
+            column: 0,
+            place: at.place + len,
+            check: at.check,
+            next: at.next,
+            ends: row_ends(plan, h, at.row + 1, at.check),
         };
     }
+    let check = at.check + 1;
     Cursor {
-        cell: at.cell + 1,
-        row,
-        column,
-        place: at.place + 1,
-        check: at.check,
-        next: at.next,
+        cell: at.next + 1,
+        row: at.row,
+        column: at.column + len + 1,
+        place: at.place + len,
+        check,
+        next: next_check(plan, h, check),
+        ends: at.ends,
     }
+}
+
+// The number of the data bit of a data cell, from its row, the data cells before it in sheet order, and the row's ends: in
+// an odd row the bits run from the highest column down.
+pub fn bit(row: usize, place: usize, ends: usize) -> usize
+    requires { ⌜ place < ends ⌝ }
+    ensures { λ r. ⌜ r ≡ dataBit row place ends ⌝ }
+{
+    if row % 2 == 1 {
+        return ends - (place + 1);
+    }
+    place
 }

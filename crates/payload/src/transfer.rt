@@ -1,17 +1,16 @@
 // Data into the cells of a sheet, and out of them.
 ghost use mathlib.Core.Path.{_≡_};
-ghost use mathlib.Core.Bool.{false};
-ghost use Prim.Native.Nat.{_≤_, _<_};
 ghost use lib.ListN.{length};
-ghost use Rattle.layout.specs.Cells.{rowBytes, sheetBytes, byteOf, cellOf, turnedIf};
+ghost use Rattle.layout.specs.Cells.{rowBytes, sheetBytes, cellOf};
 ghost use Rattle.boxcode.specs.Code.{Formed};
 ghost use Rattle.boxcode.specs.Check.{dataSize};
 ghost use Rattle.plan.specs.Header.{Framed};
 ghost use Rattle.plan.specs.Bytes.{codeWith};
-ghost use Rattle.payload.specs.Walk.{atCheck};
 ghost use Rattle.payload.specs.Packed.{filledBytes, packedData};
-ghost use Rattle.payload.specs.Transfer.{putBit, takeBit};
+ghost use Rattle.payload.specs.Transfer.{putRun, takeRun, Reaches};
 use crate::cursor::Cursor;
+use crate::cursor::bit;
+use crate::cursor::run;
 use crate::cursor::start;
 use crate::cursor::step;
 use layout::cells::cell;
@@ -19,28 +18,30 @@ use layout::cells::clear;
 use layout::cells::turn_if;
 use plan::header::Header;
 
-// The data bit at a cursor into its cell, which is light before. A check cell stays as it is.
-fn put_bit(bits: &[u8], k: usize, sheet: &mut [u8], n2: usize, at: Cursor)
-    requires { ⌜ (k ≤ 1000000) × (n2 ≤ 1000000) × (byteOf n2 (at .row) (at .column) < length (now sheet)) ⌝ }
-    requires { ⌜ (atCheck at ≡ false → byteOf k 0 (at .place) < length (now bits)) ⌝ }
-    ensures { λ _. ⌜ now (sheet .exit) ≡ turnedIf (putBit k (now (bits .entry)) at) n2 (now (sheet .entry)) (at .row) (at .column) ⌝ }
+// The data bits of a run into its cells, which are light before.
+fn put_run(bits: &[u8], k: usize, sheet: &mut [u8], n2: usize, at: Cursor, len: usize)
+    requires { ⌜ Reaches k (length (now bits)) n2 (length (now sheet)) len at ⌝ }
+    ensures { λ _. ⌜ now (sheet .exit) ≡ putRun len k (now (bits .entry)) n2 (now (sheet .entry)) at ⌝ }
 {
-    if at.cell == at.next {
-        return;
+    let mut j = 0;
+    while j < len {
+        let dark = cell(bits, k, 0, bit(at.row, at.place + j, at.ends));
+        turn_if(sheet, n2, at.row, at.column + j, dark);
+        j += 1;
     }
-    turn_if(sheet, n2, at.row, at.column, cell(bits, k, 0, at.place));
 }
 
-// The cell at a cursor into its data bit, which is 0 before. A check cell is passed over.
-fn take_bit(sheet: &[u8], n2: usize, bits: &mut [u8], k: usize, at: Cursor)
-    requires { ⌜ (k ≤ 1000000) × (n2 ≤ 1000000) × (byteOf n2 (at .row) (at .column) < length (now sheet)) ⌝ }
-    requires { ⌜ (atCheck at ≡ false → byteOf k 0 (at .place) < length (now bits)) ⌝ }
-    ensures { λ _. ⌜ now (bits .exit) ≡ turnedIf (takeBit n2 (now (sheet .entry)) at) k (now (bits .entry)) 0 (at .place) ⌝ }
+// The cells of a run into their data bits, which are 0 before.
+fn take_run(sheet: &[u8], n2: usize, bits: &mut [u8], k: usize, at: Cursor, len: usize)
+    requires { ⌜ Reaches k (length (now bits)) n2 (length (now sheet)) len at ⌝ }
+    ensures { λ _. ⌜ now (bits .exit) ≡ takeRun len n2 (now (sheet .entry)) k (now (bits .entry)) at ⌝ }
 {
-    if at.cell == at.next {
-        return;
+    let mut j = 0;
+    while j < len {
+        let dark = cell(sheet, n2, at.row, at.column + j);
+        turn_if(bits, k, 0, bit(at.row, at.place + j, at.ends), dark);
+        j += 1;
     }
-    turn_if(bits, k, 0, at.place, cell(sheet, n2, at.row, at.column));
 }
 
 // The sheet that holds the data in its data cells, and 0 in its check cells.
@@ -51,16 +52,14 @@ pub fn put(plan: &[u8], h: Header, bits: &[u8], sheet: &mut [u8])
     requires { ⌜ length (now sheet) ≡ sheetBytes (h .n1) (h .n2) ⌝ }
     ensures { λ _. ⌜ now (sheet .exit) ≡ filledBytes (codeWith (now (plan .entry)) h) (now (bits .entry)) ⌝ }
 {
-    let cells = h.n1 * h.n2;
-    let k = cells - (h.rv + h.rh);
+    let k = h.n1 * h.n2 - (h.rv + h.rh);
     let n2 = h.n2;
     clear(sheet);
     let mut at = start(plan, h);
-    let mut t = 0;
-    while t < cells {
-        put_bit(bits, k, sheet, n2, at);
-        at = step(plan, h, at);
-        t += 1;
+    while at.row < h.n1 {
+        let len = run(at, n2);
+        put_run(bits, k, sheet, n2, at, len);
+        at = step(plan, h, at, len);
     }
 }
 
@@ -72,15 +71,13 @@ pub fn take(plan: &[u8], h: Header, sheet: &[u8], bits: &mut [u8])
     requires { ⌜ length (now sheet) ≡ sheetBytes (h .n1) (h .n2) ⌝ }
     ensures { λ _. ⌜ now (bits .exit) ≡ packedData (codeWith (now (plan .entry)) h) (cellOf (h .n2) (now (sheet .entry))) ⌝ }
 {
-    let cells = h.n1 * h.n2;
-    let k = cells - (h.rv + h.rh);
+    let k = h.n1 * h.n2 - (h.rv + h.rh);
     let n2 = h.n2;
     clear(bits);
     let mut at = start(plan, h);
-    let mut t = 0;
-    while t < cells {
-        take_bit(sheet, n2, bits, k, at);
-        at = step(plan, h, at);
-        t += 1;
+    while at.row < h.n1 {
+        let len = run(at, n2);
+        take_run(sheet, n2, bits, k, at, len);
+        at = step(plan, h, at, len);
     }
 }

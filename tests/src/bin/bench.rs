@@ -41,10 +41,12 @@ fn subjects(rng: &mut Rng) -> Vec<Subject> {
     subjects
 }
 
-/// The same and one with bursts of one cell, where the plan test is short.
-fn subjects_and_single(rng: &mut Rng) -> Vec<Subject> {
+/// The same; one with bursts of one cell, where the plan test is short; and one whose rows end
+/// within a byte and whose check cells are all in odd rows, where the data runs down between them.
+fn sheets(rng: &mut Rng) -> Vec<Subject> {
     let mut subjects = subjects(rng);
     subjects.push(Subject { plan: powers_1x1(CellOrder::Scattered, rng), tables: "powers" });
+    subjects.push(Subject { plan: powers_3x3(61, 67, CellOrder::OddRows, rng), tables: "powers" });
     subjects
 }
 
@@ -175,7 +177,7 @@ fn write_and_read() {
     println!("Write and read beyond the plan test; least times in microseconds");
     println!("{SUBJECT}  plan test   call   library  plain Rust  library/plain");
     let mut rng = Rng::new(2);
-    for subject in subjects_and_single(&mut rng) {
+    for subject in sheets(&mut rng) {
         compare(&Job::new(&subject, &mut rng));
     }
 }
@@ -269,7 +271,7 @@ mod before {
         println!("Beside the archive of the earlier commit; least times in microseconds");
         println!("{SUBJECT}       call    before   library  library/before");
         let mut rng = Rng::new(3);
-        for subject in subjects_and_single(&mut rng) {
+        for subject in sheets(&mut rng) {
             let job = Job::new(&subject, &mut rng);
             let contenders: [&dyn Fn(); 6] = [
                 &|| job.test(BEFORE),

@@ -36,11 +36,13 @@ pub fn syndrome(plan: &Plan, sheet: &[u8]) -> u64 {
     sum
 }
 
-/// The cells that are not check cells, in sheet order: where the data lies.
+/// Where the data lies: the cells that are not check cells, row by row. In even rows it runs from
+/// column 0 up, in odd rows from the highest column down. The check list is in sheet order.
 fn data_cells(plan: &Plan) -> impl Iterator<Item = Cell> + '_ {
-    let cells = (0..plan.n1).flat_map(|i| (0..plan.n2).map(move |j| (i, j)));
-    let mut checks = plan.checks.iter().peekable();
-    cells.filter(move |&(i, j)| checks.next_if(|&&check| check == (i as u16, j as u16)).is_none())
+    let column = |i, place| if i % 2 == 1 { plan.n2 - 1 - place } else { place };
+    let cells =
+        (0..plan.n1).flat_map(move |i| (0..plan.n2).map(move |place| (i, column(i, place))));
+    cells.filter(|&(i, j)| plan.checks.binary_search(&(i as u16, j as u16)).is_err())
 }
 
 /// The data in a sheet, packed lowest bit first.

@@ -40,14 +40,32 @@ pub fn read_accepted(plan: &Plan, sheet: &mut [u8], data: &mut [u8]) -> Answer {
     smallest_rectangle(&burst)
 }
 
-/// Byte and bit of each cell that is not a check cell, in sheet order.
+/// Byte and bit of each cell that is not a check cell, in the order of the data.
 fn each_data_cell(plan: &Plan, mut visit: impl FnMut(usize, usize)) {
-    let mut checks = plan.checks.iter().copied().peekable();
+    let mut left = &plan.checks[..];
     for i in 0..plan.n1 {
-        for j in 0..plan.n2 {
-            if checks.next_if_eq(&(i as u16, j as u16)).is_none() {
-                visit(i * plan.row_len() + j / 8, j % 8);
-            }
+        let (row, rest) = left.split_at(left.partition_point(|&(row, _)| usize::from(row) == i));
+        left = rest;
+        let checks = row.iter().map(|&(_, j)| usize::from(j));
+        let at = |j| visit(i * plan.row_len() + j / 8, j % 8);
+        if i % 2 == 0 {
+            each_other(0..plan.n2, checks, at);
+        } else {
+            each_other((0..plan.n2).rev(), checks.rev(), at);
+        }
+    }
+}
+
+/// Each column that is not the next check cell's.
+fn each_other(
+    columns: impl Iterator<Item = usize>,
+    checks: impl Iterator<Item = usize>,
+    mut visit: impl FnMut(usize),
+) {
+    let mut checks = checks.peekable();
+    for j in columns {
+        if checks.next_if_eq(&j).is_none() {
+            visit(j);
         }
     }
 }

@@ -5,7 +5,7 @@ use Rattle.boxcode.specs.Code.{cellNumber}
 use Rattle.boxcode.specs.Check.{checkNumber}
 use Rattle.boxcode.proofs.Check.{sheet-cells}
 use Rattle.payload.proofs.Size.{pair-most}
-use Rattle.payload.proofs.Stand.{next-here, next-past}
+use Rattle.payload.proofs.Before.{next-here, next-past}
 use borrow.Author.Needs.{needs}
 use Rattle.payload.proofs.cursor.next_check.Statement.{statement}
 use Rattle.payload.proofs.cursor.next_check.Tie as tie

@@ -1,30 +1,31 @@
--- `payload::transfer::put` meets its contract. The invariant: the data of the first t places is put, and nothing else. Assumes nothing.
+-- `payload::transfer::put` meets its contract. The invariant: the data of the cells before the cursor is put, and nothing else. Assumes nothing.
 use mathlib.Core.Path.{_≡_, refl, sym, ap, _∙_}
-use Prim.Native.Nat.{ℕ, _+_, _-_, _*_, _≤_, _<_}
+use Prim.Native.Nat.{_+_, _-_, _*_}
 use native.Mathlib.Omega.{arith}
 use lib.ListN.{length}
 use Rattle.layout.specs.Cells.{cellOf, bytesOf}
-use Rattle.layout.proofs.Form.{byte-inside, bytes-form}
+use Rattle.layout.proofs.Form.{bytes-form}
 use Rattle.boxcode.specs.Check.{dataSize}
 use Rattle.boxcode.proofs.Check.{sheet-cells, checks-fit}
 use Rattle.plan.specs.Bytes.{codeWith}
 use Rattle.payload.specs.Walk.{At}
-use Rattle.payload.proofs.Size.{place-inside}
-use Rattle.payload.proofs.Stand.{at-row, at-below}
+use Rattle.payload.proofs.Stand.{at-most, at-ahead, past-end}
+use Rattle.payload.proofs.Run.{reaches}
 use Rattle.payload.proofs.Progress.{putTo, put-first, put-step, put-all}
 use Rattle.payload.proofs.transfer.put.Statement.{statement}
 use Rattle.payload.proofs.transfer.put.Tie as tie
 
 abbrev Inv-loop : tie.InvT-loop
-Inv-loop plan h bits sheet₀ cells k n2 at₀ t₀ sheet at t =
-    (t ≤ cells) × (cells ≡ h .n1 * h .n2) × (k ≡ dataSize (codeWith plan h)) × (n2 ≡ h .n2) × (at .cell ≡ t) × At (codeWith plan h) at
-    × (sheet ≡ bytesOf (h .n1) (h .n2) (putTo (codeWith plan h) (λ d. cellOf (dataSize (codeWith plan h)) bits 0 d) t))
+Inv-loop plan h bits sheet₀ k n2 at₀ sheet at =
+    (k ≡ dataSize (codeWith plan h)) × (n2 ≡ h .n2) × At (codeWith plan h) at
+    × (sheet ≡ bytesOf (h .n1) (h .n2) (putTo (codeWith plan h) (λ d. cellOf (dataSize (codeWith plan h)) bits 0 d) (at .cell)))
 
+-- every step goes on to a later cell, or to the next row
 abbrev μ-loop : tie.MeasureT-loop
-μ-loop plan h bits sheet₀ cells k n2 at₀ t₀ sheet at t = cells - t
+μ-loop plan h bits sheet₀ k n2 at₀ sheet at = (h .n1 * h .n2 + h .n1 + 1) - (at .cell + at .row)
 
-mul-cells : tie.Need-mul-cells Inv-loop μ-loop
-mul-cells c = let s = c .before .before .before .before .pre .0 .small in omega (arith, sheet-cells (s .n1-most) (s .n2-most))
+mul-k : tie.Need-mul-k Inv-loop μ-loop
+mul-k c = let s = c .before .before .before .before .pre .0 .small in omega (arith, sheet-cells (s .n1-most) (s .n2-most))
 
 add-k : tie.Need-add-k Inv-loop μ-loop
 add-k c = omega arith
@@ -36,66 +37,64 @@ clear-requires : tie.Need-clear-requires Inv-loop μ-loop
 clear-requires c κs = tt
 
 start-requires : tie.Need-start-requires Inv-loop μ-loop
-start-requires c κs = c .before .before .before .before .before .before .before .before .before .pre .0
+start-requires c κs = let pre = c .before .before .before .before .before .before .before .before .before .pre in (pre .0, pre .1 .0)
 
 loop-holds : tie.Need-loop-holds Inv-loop μ-loop
 unfolding dataSize
 loop-holds c =
-    let pre = c .before .before .before .before .before .before .before .before .before .before .pre in (
-      omega arith,
-      refl,
-      refl,
-      refl,
-      c .start .ensures .first,
-      c .start .ensures .at,
-      c .before .before .before .clear .ensures ∙ rw (pre .1 .1 .1) (put-first _ _),
-    )
+    let pre = c .before .before .before .before .before .before .before .before .before .before .pre in
+    (refl, refl, c .start .ensures .at, c .before .before .before .clear .ensures ∙ rw (pre .1 .1 .1, c .start .ensures .first) (put-first _ _))
 
-put-bit-requires : tie.Need-put-bit-requires Inv-loop μ-loop
-unfolding dataSize
-put-bit-requires c κs =
-    let start = c .before .before .before .before .before .before .before .before .before .before .before .before .before in
-    let pre = start .pre in
-    let v = c .before .before .loop .inv in
-    let F = pre .1 .0 in
-    let l : c .before .before .loop .at .cell < start .args .h .n1 * start .args .h .n2 = omega arith in
-    let m = sheet-cells (pre .0 .small .n1-most) (pre .0 .small .n2-most) in
-    let b = byte-inside _ _ (v .5 .column-in) _ _ (at-row _ F _ (v .5) l) in
-    let s = ap length (v .6) ∙ bytes-form _ _ _ .size in
-    ((omega arith, omega arith, omega arith), λ e. place-inside _ _ _ (pre .1 .1 .0) (at-below _ F _ (v .5) l e))
+run-requires : tie.Need-run-requires Inv-loop μ-loop
+run-requires c κs =
+    let pre = c .before .before .before .before .before .before .before .before .before .before .before .before .before .before .pre in
+    let v = c .before .before .before .loop .inv in
+    (at-ahead _ (pre .1 .0) _ (v .2) (omega arith), v .2 .column-most)
+
+put-run-requires : tie.Need-put-run-requires Inv-loop μ-loop
+put-run-requires c κs =
+    let pre = c .before .before .before .before .before .before .before .before .before .before .before .before .before .before .before .before .pre in
+    let v = c .before .before .before .before .before .loop .inv in
+    let s = ap length (v .3) ∙ bytes-form _ _ _ .size in
+    reaches _ (pre .1 .0) _ (v .2) (omega arith) _ _ _ _ _ (v .0) (pre .1 .1 .0) refl s (c .before .run .ensures)
 
 step-requires : tie.Need-step-requires Inv-loop μ-loop
 step-requires c κs =
-    let pre = c .before .before .before .before .before .before .before .before .before .before .before .before .before .before .before .before .pre in
-    (pre .0, (pre .1 .0, (c .before .before .before .before .before .loop .inv .5, omega arith)))
-
-add-t : tie.Need-add-t Inv-loop μ-loop
-add-t c = omega arith
+    let r = c .before .before .before .before in
+    let w = r .before .before .before .before in
+    let pre = w .before .before .before .before .before .before .before .before .before .before .before .pre in
+    (pre .0, (pre .1 .0, (w .loop .inv .2, (omega arith, r .run .ensures))))
 
 loop-less : tie.Need-loop-less Inv-loop μ-loop
-loop-less c = omega arith
+loop-less c =
+    let w = c .before .before .before .before .before .before .before .before .before in
+    let pre = w .before .before .before .before .before .before .before .before .before .before .before .pre in
+    let l = at-most _ (pre .1 .0) _ (w .loop .inv .2) (omega arith) in
+    let o = c .step .ensures .on in
+    omega arith
 
 loop-again : tie.Need-loop-again Inv-loop μ-loop
 loop-again c =
-    let pre = c .before .before .before .before .before .before .before .before .before .before .before .before .before .before .before .before .before .pre in
-    let v = c .before .before .before .before .before .before .loop .inv in
+    let r = c .before .before .before .before .before in
+    let l = r .before .before .before .before in
+    let pre = l .before .before .before .before .before .before .before .before .before .before .before .pre in
+    let v = l .loop .inv in
     let w = c .step .ensures in (
-      omega arith,
+      v .0,
       refl,
-      v .2,
-      refl,
-      w .one ∙ ap (λ (x : ℕ). x + 1) (v .4),
       w .at,
-      put-step _ (pre .1 .0) _ (v .5) (omega arith) _ _ _ _ _ _ (v .2) refl (v .4) (v .6) (c .before .before .before .put-bit .ensures),
+      put-step _ (pre .1 .0) _ (v .2) (omega arith) _ w _ _ _ (v .0) refl (r .run .ensures) _ _ _ (v .3) (c .before .before .before .put-run .ensures),
     )
 
 same-length : tie.Need-same-length Inv-loop μ-loop
 same-length c =
-    let pre = c .before .before .before .before .before .before .before .before .before .before .before .before .pre in
-    ap length (c .before .loop .inv .6) ∙ bytes-form _ _ _ .size ∙ sym (pre .1 .1 .1)
+    let pre = c .before .before .before .before .before .before .before .before .before .before .before .before .before .before .pre in
+    ap length (c .before .before .before .loop .inv .3) ∙ bytes-form _ _ _ .size ∙ sym (pre .1 .1 .1)
 
 returns : tie.Need-returns Inv-loop μ-loop
-returns c = c .before .loop .inv .6 ∙ put-all _ _ _ (omega arith)
+returns c =
+    let v = c .before .before .before .loop .inv in
+    v .3 ∙ put-all _ _ _ (past-end _ _ (v .2) (omega arith))
 
 pub put-spec : {M : Type 1} → statement M
 put-spec =
@@ -103,15 +102,15 @@ put-spec =
     (tie.spec
     Inv-loop
     μ-loop
-    mul-cells
+    mul-k
     add-k
     sub-k
     clear-requires
     start-requires
     loop-holds
-    put-bit-requires
+    run-requires
+    put-run-requires
     step-requires
-    add-t
     loop-less
     loop-again
     same-length
