@@ -2,6 +2,7 @@
 --
 --   Fields      the number of the check or 0, its places p and q, and the reader's five numbers
 --   fieldsOf    the fields of the code's struct
+--   placesFields   the fields of an answer that has a number and places alone
 --   InRange     each field fits its bits
 --   packed      the fields one above the other, the number lowest
 --   numberIn, pIn, qIn, cellsIn, topIn, leftIn, heightIn, widthIn   a field of an answer
@@ -31,6 +32,9 @@ fieldsOf a = record {
   height = a .height;
   width = a .width;
 }
+
+abbrev pub placesFields : (number p q : ℕ) → Fields
+placesFields number p q = record { number = number; p = p; q = q; cells = 0; top = 0; left = 0; height = 0; width = 0 }
 
 pub record InRange (f : Fields) : Type 0 where
   pub number-fits : f .number < 32

@@ -4,9 +4,10 @@
 --   read-fits     number and places of reading
 --   report-fits   the reader's five numbers
 --   plan-range, make-range, write-range, read-range   the fields of the answer of each call
+--   made-range, made-packed   the answer of a call that makes a plan
 --
 -- Assumes nothing.
-use mathlib.Core.Path.{_≡_, refl}
+use mathlib.Core.Path.{_≡_, refl, ap}
 use mathlib.Core.Bool.{Bool, true, false, not, cond}
 use mathlib.Core.List.{List}
 use Prim.Native.Nat.{ℕ, _<_, _≤_}
@@ -36,11 +37,11 @@ use Rattle.mend.proofs.First.{first-report}
 use Rattle.reader.proofs.Cases.{zero-reads}
 use Rattle.reader.specs.Read.{burstIn, readVerdict, reportRead, taken, refused, readOutcome}
 use Rattle.maker.specs.declared.parameters.Parameters.{Parameters}
-use Rattle.maker.specs.Make.{make}
+use Rattle.maker.specs.Make.{Made, made, make}
 use Rattle.maker.proofs.Range.{make-fits}
 use Rattle.writer.specs.Write.{write}
-use Rattle.answer.specs.Answer.{InRange}
-use Rattle.sheet.specs.Calls.{verdictFields, reportFields}
+use Rattle.answer.specs.Answer.{InRange, packed}
+use Rattle.sheet.specs.Calls.{verdictFields, reportFields, makeReply, makeCall}
 
 length-fits : (n : ℕ) (s : List ℕ) (size : ℕ) → n < 32 → SmallVerdict (lengthVerdict n s size)
 unfolding lengthVerdict
@@ -157,6 +158,15 @@ plan-range plan = fields-range (planVerdict plan) (reportAs noReport) (plan-fits
 
 pub make-range : (g : Parameters) (plan : List ℕ) → InRange (verdictFields (make g plan .verdict))
 make-range g plan = fields-range (make g plan .verdict) (reportAs noReport) (make-fits g plan) none-fits
+
+-- an answer of the maker, as a call has it: its fields are in range, and packed they are the call's
+module _ (g : Parameters) (plan : List ℕ) {v : Verdict} {s : List ℕ} (e : made v s ≡ make g plan) where
+  pub made-range : InRange (verdictFields v)
+  made-range = rw (ap (λ (o : Made). verdictFields (o .verdict)) e) (make-range g plan)
+
+  pub made-packed : makeReply (packed (verdictFields v)) s ≡ makeCall g plan
+  unfolding makeCall
+  made-packed = ap (λ (o : Made). makeReply (packed (verdictFields (o .verdict))) (o .plan)) e
 
 pub write-range : (plan bits sheet : List ℕ) → InRange (verdictFields (write plan bits sheet .verdict))
 unfolding write

@@ -9,7 +9,7 @@
 --   ReadReply, readCall     the answer of reading, packed, and every byte of the sheet and of the data buffer after it
 use Prim.Native.Nat.{ℕ}
 use mathlib.Core.List.{List}
-use Rattle.answer.specs.Answer.{Fields, packed}
+use Rattle.answer.specs.Answer.{Fields, placesFields, packed}
 use Rattle.plan.specs.declared.verdict.Verdict.{Verdict}
 use Rattle.mend.specs.declared.report.Report.{Report}
 use Rattle.accept.specs.Verdict.{planVerdict}
@@ -19,7 +19,7 @@ use Rattle.writer.specs.Write.{write}
 use Rattle.reader.specs.Read.{readOutcome}
 
 abbrev pub verdictFields : Verdict → Fields
-verdictFields v = record { number = v .number; p = v .p; q = v .q; cells = 0; top = 0; left = 0; height = 0; width = 0 }
+verdictFields v = placesFields (v .number) (v .p) (v .q)
 
 abbrev pub reportFields : Verdict → Report → Fields
 reportFields v r = record {

@@ -5,6 +5,7 @@ ghost use Rattle.sheet.specs.Calls.{planAnswer, parameters, makeReply, m
 use accept::test::test;
 use answer::Answer;
 use answer::pack;
+use answer::pack_places;
 use maker::making::make;
 use maker::parameters::Parameters;
 use reader::read::read;
@@ -17,16 +18,7 @@ pub extern "C" fn sheet_plan_test(plan: &[u8]) -> u64
 {
     let mut words = [0u64; 2792];
     let tested = test(plan, &mut words);
-    pack(Answer {
-        number: tested.number,
-        p: tested.p,
-        q: tested.q,
-        cells: 0,
-        top: 0,
-        left: 0,
-        height: 0,
-        width: 0,
-    })
+    pack_places(tested.number, tested.p, tested.q)
 }
 
 // Makes a plan from two polynomials, each by its degree and the coefficients below it: every byte of it, whatever the buffer held.
@@ -55,16 +47,7 @@ pub extern "C" fn sheet_plan_make(
         hlow: h_low as u64,
     };
     let made = make(given, plan);
-    pack(Answer {
-        number: made.number,
-        p: made.p,
-        q: made.q,
-        cells: 0,
-        top: 0,
-        left: 0,
-        height: 0,
-        width: 0,
-    })
+    pack_places(made.number, made.p, made.q)
 }
 
 // Writes the sheet that carries the data: every byte of it, whatever it held.
@@ -73,16 +56,7 @@ pub extern "C" fn sheet_write(plan: &[u8], bits: &[u8], sheet: &mut [u8]) -> u64
     ensures { λ r. ⌜ writeReply r (now (sheet .exit)) ≡ writeCall (now (plan .entry)) (now (bits .entry)) (now (sheet .entry)) ⌝ }
 {
     let wrote = write(plan, bits, sheet);
-    pack(Answer {
-        number: wrote.number,
-        p: wrote.p,
-        q: wrote.q,
-        cells: 0,
-        top: 0,
-        left: 0,
-        height: 0,
-        width: 0,
-    })
+    pack_places(wrote.number, wrote.p, wrote.q)
 }
 
 // Reads a sheet: mends it in place, writes its data, and tells which cells were turned over.

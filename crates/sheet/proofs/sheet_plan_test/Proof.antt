@@ -13,15 +13,15 @@ slice-aggregate-test c = search needs
 test-requires : tie.Need-test-requires
 test-requires c κs = search needs
 
-pack-requires : tie.Need-pack-requires
-pack-requires c κs =
+pack-places-requires : tie.Need-pack-places-requires
+pack-places-requires c κs =
     let t = c .before .test in
     let f : InRange (verdictFields (t .result)) = rw (t .ensures .verdict) (plan-range (c .before .before .before .before .args .plan .now)) in
     omega arith
 
 returns : tie.Need-returns
 unfolding planAnswer
-returns c = rw (← (c .before .before .test .ensures .verdict)) (c .pack .ensures)
+returns c = rw (← (c .before .before .test .ensures .verdict)) (c .pack-places .ensures)
 
 pub sheet-plan-test-spec : {M : Type 1} → statement M
-sheet-plan-test-spec = tie.close (tie.spec slice-aggregate-test test-requires pack-requires returns)
+sheet-plan-test-spec = tie.close (tie.spec slice-aggregate-test test-requires pack-places-requires returns)

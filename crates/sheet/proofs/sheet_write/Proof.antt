@@ -12,8 +12,8 @@ use Rattle.sheet.proofs.sheet_write.Tie as tie
 write-requires : tie.Need-write-requires
 write-requires c κs = search needs
 
-pack-requires : tie.Need-pack-requires
-pack-requires c κs =
+pack-places-requires : tie.Need-pack-places-requires
+pack-places-requires c κs =
     let s = c .before .before .before .before .before .before .before .args in
     let w = c .before .before .write in
     let f : InRange (verdictFields (w .result)) =
@@ -26,7 +26,7 @@ same-length c = search needs
 returns : tie.Need-returns
 unfolding writeCall
 returns c =
-    rw (c .pack .ensures) (ap (λ (o : Wrote). writeReply (packed (verdictFields (o .verdict))) (o .sheet)) (c .before .before .before .write .ensures))
+    rw (c .pack-places .ensures) (ap (λ (o : Wrote). writeReply (packed (verdictFields (o .verdict))) (o .sheet)) (c .before .before .before .write .ensures))
 
 pub sheet-write-spec : {M : Type 1} → statement M
-sheet-write-spec = tie.close (tie.spec write-requires pack-requires same-length returns)
+sheet-write-spec = tie.close (tie.spec write-requires pack-places-requires same-length returns)
