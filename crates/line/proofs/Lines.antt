@@ -25,7 +25,7 @@ use Rattle.accept.specs.Verdict.{planVerdict}
 use Rattle.accept.proofs.Acceptance.{accepted-plan}
 use Rattle.buffers.specs.Buffers.{lengthChecks, readChecks}
 use Rattle.reader.specs.Read.{Outcome, readVerdict, readOutcome}
-use Rattle.line.specs.Text.{space, hexText}
+use Rattle.text.specs.Text.{space, hexText}
 use Rattle.line.specs.Line.{planSize, planPart, sheetPart, dataField, okLine, noLine, lineFrom, dataBytes, lineOf}
 use Rattle.line.specs.Parts.{DataSize}
 

@@ -8,22 +8,22 @@
 -- Assumes nothing.
 use mathlib.Core.Path.{_≡_, refl}
 use mathlib.Core.List.{[], _∷_}
-use Rattle.line.specs.Text.{digitOf, decimalWithin, decimalBytes, hexBytes, hexText}
-use Rattle.line.specs.Line.{field, dataField, numbers, okLine, noLine}
+use Rattle.text.specs.Text.{field, digitOf, decimalWithin, decimalBytes, each, hexBytes, hexText}
+use Rattle.line.specs.Line.{dataField, numbers, okLine, noLine}
 
 pub case-twelve : okLine (record { cells = 2; top = 0; left = 1; height = 1; width = 2 }) (2 ∷ [])
     ≡ 111 ∷ 107 ∷ 32 ∷ 50 ∷ 32 ∷ 48 ∷ 32 ∷ 49 ∷ 32 ∷ 49 ∷ 32 ∷ 50 ∷ 32 ∷ 48 ∷ 50 ∷ 10 ∷ []
-unfolding okLine numbers dataField field decimalBytes decimalWithin hexText hexBytes digitOf
+unfolding okLine numbers dataField field decimalBytes decimalWithin hexText each hexBytes digitOf
 case-twelve = refl
 
 pub no-data : okLine (record { cells = 16; top = 511; left = 697; height = 4; width = 4 }) []
     ≡ 111 ∷ 107 ∷ 32 ∷ 49 ∷ 54 ∷ 32 ∷ 53 ∷ 49 ∷ 49 ∷ 32 ∷ 54 ∷ 57 ∷ 55 ∷ 32 ∷ 52 ∷ 32 ∷ 52 ∷ 10 ∷ []
-unfolding okLine numbers dataField field decimalBytes decimalWithin hexText hexBytes digitOf
+unfolding okLine numbers dataField field decimalBytes decimalWithin hexText each hexBytes digitOf
 no-data = refl
 
 pub letters : okLine (record { cells = 0; top = 0; left = 0; height = 0; width = 0 }) (10 ∷ 255 ∷ [])
     ≡ 111 ∷ 107 ∷ 32 ∷ 48 ∷ 32 ∷ 48 ∷ 32 ∷ 48 ∷ 32 ∷ 48 ∷ 32 ∷ 48 ∷ 32 ∷ 48 ∷ 97 ∷ 102 ∷ 102 ∷ 10 ∷ []
-unfolding okLine numbers dataField field decimalBytes decimalWithin hexText hexBytes digitOf
+unfolding okLine numbers dataField field decimalBytes decimalWithin hexText each hexBytes digitOf
 letters = refl
 
 pub refusal-places : noLine (record { number = 8; p = 100; q = 2791 })

@@ -2,7 +2,6 @@
 --
 --   planSize      how many of the bytes are the plan
 --   planPart, sheetPart   the plan, and the rest, which is the sheet
---   field x       a space and a number
 --   dataField     a space and the data, which is one field; nothing where there is no data
 --   okLine        the line of a sheet that was read: the five numbers and the data
 --   noLine        the line of a refusal: number and places
@@ -22,7 +21,7 @@ use Rattle.plan.specs.Header.{headerLength}
 use Rattle.plan.specs.Bytes.{codeOf}
 use Rattle.mend.specs.declared.report.Report.{Report}
 use Rattle.reader.specs.Read.{Outcome, readOutcome}
-use Rattle.line.specs.Text.{space, newline, decimalBytes, hexText}
+use Rattle.text.specs.Text.{space, newline, field, hexText}
 
 -- the first 20 bytes, or as many as the length field says if that is more, or all there is
 unfoldable pub planSize : List ℕ → ℕ
@@ -33,9 +32,6 @@ planPart input = take (planSize input) input
 
 unfoldable pub sheetPart : List ℕ → List ℕ
 sheetPart input = drop (planSize input) input
-
-unfoldable pub field : ℕ → List ℕ
-field x = space ∷ decimalBytes x
 
 unfoldable pub dataField : List ℕ → List ℕ
 dataField [] = []

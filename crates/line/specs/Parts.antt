@@ -2,13 +2,12 @@
 --
 --   DataSize plan r           r is small, and where the plan is accepted it is the number of bytes of its data
 --   Room                      the buffers have room for the input, for the data of any plan, and for the longest line
---   Printed input out r       the first r bytes of out are the line of the input
 use Prim.Native.Nat.{ℕ, _≤_}
 use mathlib.Core.Path.{_≡_}
 use mathlib.Core.List.{List}
-use lib.ListN.{length, take}
+use lib.ListN.{length}
 use Rattle.accept.specs.Verdict.{Accepted}
-use Rattle.line.specs.Line.{dataBytes, lineOf}
+use Rattle.line.specs.Line.{dataBytes}
 
 pub record DataSize (plan : List ℕ) (r : ℕ) : Type 0 where
   pub most : r ≤ 44672
@@ -19,9 +18,3 @@ pub record Room (input sheet bits out : List ℕ) : Type 0 where
   pub sheet-room : length input ≤ length sheet
   pub bits-room : 44672 ≤ length bits
   pub out-room : 89472 ≤ length out
-
--- the last two are said so that whoever prints `&out[..r]` needs no proof
-pub record Printed (input out : List ℕ) (r : ℕ) : Type 0 where
-  pub line : take r out ≡ lineOf input
-  pub within : r ≤ length out
-  pub counted : r ≡ length (take r out)

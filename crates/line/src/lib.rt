@@ -1,4 +1,3 @@
 pub mod parts;
 pub mod print;
-pub mod text;
 pub mod whole;

@@ -2,13 +2,13 @@
 ghost use mathlib.Core.List.{[], _∷_};
 ghost use Prim.Native.Nat.{_+_, _*_, _≤_};
 ghost use lib.ListN.{length};
-ghost use Rattle.line.specs.Text.{Put};
+ghost use Rattle.text.specs.Text.{Put};
 ghost use Rattle.line.specs.Line.{dataField, numbers, okLine, noLine};
-use crate::text::put_byte;
-use crate::text::put_field;
-use crate::text::put_hexes;
 use mend::report::Report;
 use plan::verdict::Verdict;
+use text::put_byte;
+use text::put_field;
+use text::put_hexes;
 
 // A word of two letters.
 fn put_word(out: &mut [u8], a: u8, b: u8) -> usize

@@ -2,9 +2,9 @@
 ghost use Prim.Native.Nat.{_+_, _*_, _≤_};
 ghost use lib.ListN.{length};
 ghost use Rattle.reader.specs.Read.{readOutcome};
-ghost use Rattle.line.specs.Text.{Put};
-ghost use Rattle.line.specs.Line.{lineFrom};
-ghost use Rattle.line.specs.Parts.{Room, Printed};
+ghost use Rattle.text.specs.Text.{Put, Printed};
+ghost use Rattle.line.specs.Line.{lineFrom, lineOf};
+ghost use Rattle.line.specs.Parts.{Room};
 use crate::parts::copy;
 use crate::parts::data_bytes;
 use crate::parts::plan_size;
@@ -30,7 +30,7 @@ fn read_line(plan: &[u8], sheet: &mut [u8], bits: &mut [u8], out: &mut [u8]) -> 
 // The line, at the start of out. The sheet is read in a copy, so that the input stays as it is.
 pub fn line(input: &[u8], sheet: &mut [u8], bits: &mut [u8], out: &mut [u8]) -> usize
     requires { ⌜ Room (now input) (now sheet) (now bits) (now out) ⌝ }
-    ensures { λ r. ⌜ Printed (now (input .entry)) (now (out .exit)) r ⌝ }
+    ensures { λ r. ⌜ Printed (lineOf (now (input .entry))) (now (out .exit)) r ⌝ }
 {
     let n = plan_size(input);
     let plan = &input[..n];

@@ -4,8 +4,8 @@ use Prim.Native.Nat.{ℕ, _-_, _≤_}
 use native.Mathlib.Omega.{arith}
 use lib.ListN.{length, take}
 use lib.Seq.{take-length}
-use Rattle.line.specs.Text.{Put}
-use Rattle.line.proofs.Putting.{put-none, put-length, put-take, put-as}
+use Rattle.text.specs.Text.{Put}
+use Rattle.text.proofs.Putting.{put-none, put-length, put-take, put-as}
 use Rattle.line.proofs.parts.copy.Statement.{statement}
 use Rattle.line.proofs.parts.copy.Tie as tie
 

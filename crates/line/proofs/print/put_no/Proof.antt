@@ -1,7 +1,7 @@
 -- `line::print::put_no` meets its contract. Assumes nothing.
 use native.Mathlib.Omega.{arith}
 use Rattle.line.specs.Line.{noLine}
-use Rattle.line.proofs.Putting.{put-more}
+use Rattle.text.proofs.Putting.{put-more}
 use borrow.Author.Needs.{needs}
 use Rattle.line.proofs.print.put_no.Statement.{statement}
 use Rattle.line.proofs.print.put_no.Tie as tie

@@ -1,7 +1,7 @@
 -- `line::print::put_numbers` meets its contract. Assumes nothing.
 use native.Mathlib.Omega.{arith}
 use Rattle.line.specs.Line.{numbers}
-use Rattle.line.proofs.Putting.{put-more}
+use Rattle.text.proofs.Putting.{put-more}
 use borrow.Author.Needs.{needs}
 use Rattle.line.proofs.print.put_numbers.Statement.{statement}
 use Rattle.line.proofs.print.put_numbers.Tie as tie

@@ -1,7 +1,7 @@
 -- `line::print::put_ok` meets its contract. Assumes nothing.
 use native.Mathlib.Omega.{arith}
 use Rattle.line.specs.Line.{okLine}
-use Rattle.line.proofs.Putting.{put-more}
+use Rattle.text.proofs.Putting.{put-more}
 use borrow.Author.Needs.{needs}
 use Rattle.line.proofs.print.put_ok.Statement.{statement}
 use Rattle.line.proofs.print.put_ok.Tie as tie

@@ -1,5 +1,5 @@
 -- `line::print::put_word` meets its contract. Assumes nothing.
-use Rattle.line.proofs.Putting.{put-more}
+use Rattle.text.proofs.Putting.{put-more}
 use borrow.Author.Needs.{needs}
 use Rattle.line.proofs.print.put_word.Statement.{statement}
 use Rattle.line.proofs.print.put_word.Tie as tie

@@ -5,7 +5,7 @@ use Prim.Native.Nat.{ℕ, _-_, _≤_}
 use native.Mathlib.Omega.{arith}
 use lib.Seq.{length-take-le}
 use lib.ListN.{length, take, drop, length-take}
-use Rattle.line.proofs.Putting.{put-front, put-length}
+use Rattle.text.proofs.Putting.{put-front, put-printed}
 use Rattle.line.proofs.Lines.{parts-fit, zeros-part, rest-part, line-made}
 use borrow.Author.Needs.{needs}
 use Rattle.line.proofs.whole.line.Statement.{statement}
@@ -87,14 +87,9 @@ returns c =
     let l = length-take (length input - n) (drop n input) in
     let h : length (take (length input - n) (drop n input)) ≤ length (start .args .sheet .now) = omega arith in
     let f : k ≤ length (start .args .bits .now) = omega arith in
-    let w : printed .read-line .result ≤ length (printed .read-line .last .1 .1 .1 .0) = omega (arith, put-length (p .0), p .1) in
-    record {
-      line = put-front (p .0) (omega (arith, p .0 .past))
-          ∙ line-made _ _ _ _ _ _ (planned .plan-size .ensures) refl (put-front (copied .copy .ensures) h ∙ rest-part n input)
-          (ap (λ (s : List ℕ). take k s) (cleared .clear .ensures) ∙ zeros-part _ _ f) (sized .data-bytes .ensures);
-      within = w;
-      counted = sym (length-take-le _ _ w);
-    }
+    put-printed (p .0) (p .1)
+    (line-made _ _ _ _ _ _ (planned .plan-size .ensures) refl (put-front (copied .copy .ensures) h ∙ rest-part n input)
+    (ap (λ (s : List ℕ). take k s) (cleared .clear .ensures) ∙ zeros-part _ _ f) (sized .data-bytes .ensures))
 
 pub line-spec : {M : Type 1} → statement M
 line-spec =

@@ -1,7 +1,7 @@
 -- `line::whole::read_line` meets its contract: the line goes by the number. Assumes nothing.
 use mathlib.Core.Path.{ap, _∙_}
 use Rattle.line.specs.Line.{lineFrom}
-use Rattle.line.proofs.Putting.{put-as}
+use Rattle.text.proofs.Putting.{put-as}
 use Rattle.line.proofs.Lines.{no-from, ok-from}
 use borrow.Author.Needs.{needs}
 use Rattle.line.proofs.whole.read_line.Statement.{statement}

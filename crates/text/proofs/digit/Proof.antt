@@ -1,9 +1,9 @@
--- `line::text::digit` meets its contract. Assumes nothing.
+-- `text::digit` meets its contract. Assumes nothing.
 use borrow.Author.Tests.{lt-ltb, le-ltb}
-use Rattle.line.specs.Text.{digitOf}
+use Rattle.text.specs.Text.{digitOf}
 use borrow.Author.Needs.{needs}
-use Rattle.line.proofs.text.digit.Statement.{statement}
-use Rattle.line.proofs.text.digit.Tie as tie
+use Rattle.text.proofs.digit.Statement.{statement}
+use Rattle.text.proofs.digit.Tie as tie
 
 add-result : tie.Need-add-result
 add-result c = search needs

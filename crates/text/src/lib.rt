@@ -3,8 +3,7 @@ ghost use mathlib.Core.Path.{_≡_};
 ghost use mathlib.Core.List.{[], _∷_};
 ghost use Prim.Native.Nat.{_+_, _*_, _≤_, _<_};
 ghost use lib.ListN.{length};
-ghost use Rattle.line.specs.Text.{digitOf, decimalBytes, hexBytes, hexText, Put};
-ghost use Rattle.line.specs.Line.{field};
+ghost use Rattle.text.specs.Text.{digitOf, decimalBytes, field, hexBytes, hexText, lineBytes, linesText, Put};
 
 // One byte.
 pub fn put_byte(out: &mut [u8], n: usize, b: u8) -> usize
@@ -63,6 +62,31 @@ pub fn put_hexes(out: &mut [u8], n: usize, s: &[u8]) -> usize
     let mut i = 0;
     while i < s.len() {
         m = put_hex(out, m, s[i]);
+        i += 1;
+    }
+    m
+}
+
+// A number and a line feed.
+pub fn put_line(out: &mut [u8], n: usize, x: usize) -> usize
+    requires { ⌜ n + 21 ≤ length (now out) ⌝ }
+    ensures { λ r. ⌜ Put (now (out .entry)) n (lineBytes x) (now (out .exit)) r ⌝ }
+    ensures { λ r. ⌜ r ≤ n + 21 ⌝ }
+{
+    let m = put_decimal(out, n, x);
+    put_byte(out, m, 10)
+}
+
+// Every number of a slice on a line of its own.
+pub fn put_lines(out: &mut [u8], n: usize, s: &[u64]) -> usize
+    requires { ⌜ n + 21 * length (now s) ≤ length (now out) ⌝ }
+    ensures { λ r. ⌜ Put (now (out .entry)) n (linesText (now (s .entry))) (now (out .exit)) r ⌝ }
+    ensures { λ r. ⌜ r ≤ n + 21 * length (now (s .entry)) ⌝ }
+{
+    let mut m = n;
+    let mut i = 0;
+    while i < s.len() {
+        m = put_line(out, m, s[i] as usize);
         i += 1;
     }
     m

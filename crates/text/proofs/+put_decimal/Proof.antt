@@ -3,18 +3,18 @@ use mathlib.Core.Path.{sym, ap, _∙_}
 use mathlib.Core.List.{[], _∷_, _++_}
 use Prim.Native.Nat.{ℕ, _/_, _<_}
 use native.Mathlib.Omega.{arith}
-use Rattle.line.specs.Text.{decimalBytes}
-use Rattle.line.proofs.Putting.{put-as, put-more, put-length, decimal-one, decimal-more, decimal-most}
+use Rattle.text.specs.Text.{decimalBytes}
+use Rattle.text.proofs.Putting.{put-as, put-more, put-length, decimal-one, decimal-more, decimal-most}
 use borrow.Author.Needs.{needs}
 use borrow.Fn.Kinds.{In}
 use borrow.Fn.PlainCycle.{Measures, is, falls, and}
-use Rattle.line.proofs.text.put_decimal.Reads as put-decimal
-use Rattle.line.proofs.text.put_decimal.Kinds as put-decimal-kinds
-use Rattle.line.proofs.text.+put_decimal.Lts-put_decimal as put-decimal-lts
-use Rattle.line.proofs.text.digit.Reads as digit-reads
-use Rattle.line.proofs.text.put_byte.Reads as put-byte-reads
-use Rattle.line.proofs.text.+put_decimal.{statement}
-use Rattle.line.proofs.text.+put_decimal.Tie.{close}
+use Rattle.text.proofs.put_decimal.Reads as put-decimal
+use Rattle.text.proofs.put_decimal.Kinds as put-decimal-kinds
+use Rattle.text.proofs.+put_decimal.Lts-put_decimal as put-decimal-lts
+use Rattle.text.proofs.digit.Reads as digit-reads
+use Rattle.text.proofs.put_byte.Reads as put-byte-reads
+use Rattle.text.proofs.+put_decimal.{statement}
+use Rattle.text.proofs.+put_decimal.Tie.{close}
 
 abbrev μ-put-decimal : Measures 1 put-decimal-kinds.ps ℕ
 μ-put-decimal κs a = a .1 .1 .0

@@ -1,9 +1,9 @@
--- `line::text::put_hex` meets its contract. Assumes nothing.
-use Rattle.line.specs.Text.{hexBytes}
-use Rattle.line.proofs.Putting.{put-more, put-as}
+-- `text::put_hex` meets its contract. Assumes nothing.
+use Rattle.text.specs.Text.{hexBytes}
+use Rattle.text.proofs.Putting.{put-more, put-as}
 use borrow.Author.Needs.{needs}
-use Rattle.line.proofs.text.put_hex.Statement.{statement}
-use Rattle.line.proofs.text.put_hex.Tie as tie
+use Rattle.text.proofs.put_hex.Statement.{statement}
+use Rattle.text.proofs.put_hex.Tie as tie
 
 digit-requires : tie.Need-digit-requires
 digit-requires c κs = search needs

@@ -1,10 +1,10 @@
--- `line::text::put_field` meets its contract. Assumes nothing.
+-- `text::put_field` meets its contract. Assumes nothing.
 use native.Mathlib.Omega.{arith}
-use Rattle.line.specs.Line.{field}
-use Rattle.line.proofs.Putting.{put-more, decimal-most}
+use Rattle.text.specs.Text.{field}
+use Rattle.text.proofs.Putting.{put-more, decimal-most}
 use borrow.Author.Needs.{needs}
-use Rattle.line.proofs.text.put_field.Statement.{statement}
-use Rattle.line.proofs.text.put_field.Tie as tie
+use Rattle.text.proofs.put_field.Statement.{statement}
+use Rattle.text.proofs.put_field.Tie as tie
 
 put-byte-requires : tie.Need-put-byte-requires
 put-byte-requires c κs = search needs

@@ -4,15 +4,17 @@
 --   put-as         the same text, said otherwise
 --   put-length     a buffer keeps its length
 --   put-front      text at the start of a buffer with room for it is what stands there
+--   put-printed    so it is printed there
 --   put-none, put-take   nothing is written; one byte more of a list that is copied
 --   decimal-one, decimal-more   a number of one digit, and one of more: the last digit after all the others
 --   decimal-most   a number below 10 to the power k + 1 has at most k + 1 digits
---   hex-length, hex-more   two digits a byte; one byte more
+--   each-more      one text more
+--   hex-length     two digits a byte
 --
 -- Assumes nothing.
 use mathlib.Core.Path.{_≡_, refl, sym, ap, _∙_}
 use mathlib.Core.Bool.{Bool, true, false}
-use mathlib.Core.List.{List, [], _∷_, _++_}
+use mathlib.Core.List.{List, [], _∷_, _++_, append-assoc, append-nil}
 use Prim.Native.Nat.{ℕ, zero, suc, _+_, _*_, _/_, _%_, _^_, _≤_, _<_}
 use native.Mathlib.Nat.{add-zero, pow-suc}
 use native.Mathlib.Numerals.{add-one}
@@ -20,8 +22,8 @@ use native.Mathlib.Omega.{arith}
 use borrow.Author.Tests.{lt-ltb, le-ltb, ltb-true, ltb-false}
 use lib.Dec.{ltb}
 use lib.ListN.{length, take, getD, set, length-append}
-use lib.Seq.{sets, length-sets, sets-eq, take-append-seam, take-suc}
-use Rattle.line.specs.Text.{digitOf, decimalWithin, decimalBytes, hexBytes, hexText, Put}
+use lib.Seq.{sets, length-sets, sets-eq, take-append-seam, take-suc, length-take-le}
+use Rattle.text.specs.Text.{digitOf, decimalWithin, decimalBytes, each, hexBytes, hexText, Put, Printed}
 
 -- ---- runs of stores
 
@@ -48,6 +50,11 @@ pub put-front : {a b : List ℕ} {r : ℕ} {xs : List ℕ} → Put a 0 xs b r �
 put-front {a} {b} {r} {xs} p h =
     let e : r ≡ length xs = omega (arith, p .past) in
     rw (e, p .bytes, sets-eq xs a 0 (omega arith)) (take-append-seam xs _)
+
+pub put-printed : {a b : List ℕ} {r : ℕ} {xs ys : List ℕ} → Put a 0 xs b r → r ≤ length a → xs ≡ ys → Printed ys b r
+put-printed {a} {b} {r} {xs} {ys} p h e =
+    let w : r ≤ length b = omega (arith, put-length p) in
+    record { bytes = put-front p (omega (arith, p .past)) ∙ e; within = w; counted = sym (length-take-le r b w) }
 
 pub put-none : (a : List ℕ) (n : ℕ) → Put a n [] a n
 put-none a n = record { bytes = refl; past = omega arith }
@@ -101,17 +108,17 @@ decimal-most (suc k) n h = go (ltb n 10) refl (λ i. decimal-most k (n / 10) i)
         let i = f m in
         rw (decimal-more n (ltb-false n 10 e)) (omega (arith, length-append (decimalBytes (n / 10)) (digitOf (n % 10) ∷ [])))
 
--- ---- hexadecimal
+-- ---- one text after another
+
+each-snoc : (f : ℕ → List ℕ) (s : List ℕ) (x : ℕ) → each f (s ++ (x ∷ [])) ≡ each f s ++ f x
+unfolding each
+each-snoc f [] x = append-nil (f x)
+each-snoc f (y ∷ s) x = ap (λ (t : List ℕ). f y ++ t) (each-snoc f s x) ∙ sym (append-assoc (f y) (each f s) (f x))
+
+pub each-more : (f : ℕ → List ℕ) (s : List ℕ) (i : ℕ) → i < length s → each f (take (i + 1) s) ≡ each f (take i s) ++ f (getD s i 0)
+each-more f s i h = rw (add-one, take-suc s i 0) (each-snoc f (take i s) (getD s i 0))
 
 pub hex-length : (s : List ℕ) → length (hexText s) ≡ 2 * length s
-unfolding hexText hexBytes
+unfolding hexText each hexBytes
 hex-length [] = refl
 hex-length (b ∷ s) = let i = hex-length s in omega arith
-
-hex-snoc : (s : List ℕ) (b : ℕ) → hexText (s ++ (b ∷ [])) ≡ hexText s ++ hexBytes b
-unfolding hexText hexBytes
-hex-snoc [] b = refl
-hex-snoc (x ∷ s) b = ap (λ (t : List ℕ). hexBytes x ++ t) (hex-snoc s b)
-
-pub hex-more : (s : List ℕ) (i : ℕ) → i < length s → hexText (take (i + 1) s) ≡ hexText (take i s) ++ hexBytes (getD s i 0)
-hex-more s i h = rw (add-one, take-suc s i 0) (hex-snoc (take i s) (getD s i 0))

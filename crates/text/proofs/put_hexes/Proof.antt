@@ -1,13 +1,13 @@
--- `line::text::put_hexes` meets its contract. The invariant: the first i bytes of s are written. Assumes nothing.
+-- `text::put_hexes` meets its contract. The invariant: the first i bytes of s are written. Assumes nothing.
 use mathlib.Core.Path.{_≡_, sym, ap, _∙_}
 use Prim.Native.Nat.{ℕ, _+_, _*_, _-_, _≤_, _<_}
 use native.Mathlib.Omega.{arith}
 use lib.ListN.{length, take}
 use lib.Seq.{take-length}
-use Rattle.line.specs.Text.{hexText, hexBytes, Put}
-use Rattle.line.proofs.Putting.{put-none, put-length, put-more, put-as, hex-more}
-use Rattle.line.proofs.text.put_hexes.Statement.{statement}
-use Rattle.line.proofs.text.put_hexes.Tie as tie
+use Rattle.text.specs.Text.{each, hexText, hexBytes, Put}
+use Rattle.text.proofs.Putting.{put-none, put-length, put-more, put-as, each-more}
+use Rattle.text.proofs.put_hexes.Statement.{statement}
+use Rattle.text.proofs.put_hexes.Tie as tie
 
 abbrev Inv-loop : tie.InvT-loop
 Inv-loop out₀ n s m₀ i₀ out m i = (i ≤ length s) × (m ≡ n + 2 * i) × Put out₀ n (hexText (take i s)) out m
@@ -16,7 +16,7 @@ abbrev μ-loop : tie.MeasureT-loop
 μ-loop out₀ n s m₀ i₀ out m i = length s - i
 
 loop-holds : tie.Need-loop-holds Inv-loop μ-loop
-unfolding hexText
+unfolding hexText each
 loop-holds c = (omega arith, omega arith, put-none _ _)
 
 shared-slice-read-put-hex : tie.Need-shared-slice-read-put-hex Inv-loop μ-loop
@@ -32,13 +32,13 @@ loop-less : tie.Need-loop-less Inv-loop μ-loop
 loop-less c = omega arith
 
 loop-again : tie.Need-loop-again Inv-loop μ-loop
-unfolding hexBytes
+unfolding hexText hexBytes
 loop-again c =
     let l = c .before .before .before .before .before .before .loop in
     let s = c .before .before .before .before .before .before .before .before .before .args .s .now in
     let p = c .before .before .put-hex .ensures in
     let h : l .i < length s = omega arith in
-    (omega arith, omega (arith, p .past), put-as (put-more (l .inv .2) p) (sym (hex-more _ _ h)))
+    (omega arith, omega (arith, p .past), put-as (put-more (l .inv .2) p) (sym (each-more hexBytes _ _ h)))
 
 same-length : tie.Need-same-length Inv-loop μ-loop
 same-length c = put-length (c .before .loop .inv .2)

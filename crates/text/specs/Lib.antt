@@ -1,0 +1,2 @@
+-- Text in a buffer of bytes.
+pub mod Text
