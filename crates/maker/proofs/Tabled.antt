@@ -1,7 +1,8 @@
 -- Tables that agree make the same plan.
 --
---   powers-small   powers have at most 32 digits
---   power-tables   words that hold the powers are tables
+--   row-below, column-below   a power has as many digits as the degree says
+--   tables-filled  words into which both tables of powers were laid hold them
+--   power-tables   and are tables
 --   joint-equal    equal entries give each cell the same joint entry
 --   made-equal     and so the same check cells, and the same bytes
 --   row-condition, column-condition   checks 8 and 9 of tables of powers
@@ -27,19 +28,19 @@ use Rattle.plan.specs.declared.header.Header.{Header}
 use Rattle.plan.specs.declared.table.Table.the-variants.{Rows, Columns}
 use Rattle.plan.specs.Table.{entriesOf, wordAt}
 use Rattle.plan.specs.Verdict.{refusal, verdictIf}
-use Rattle.plan.specs.Header.{Small}
+use Rattle.plan.specs.Header.{Small, ruled}
 use Rattle.plan.specs.Bytes.{codeFrom}
 use Rattle.plan.proofs.Sequence.{if-zero}
 use Rattle.plan.proofs.Framing.{position-fits}
 use Rattle.accept.specs.Verdict.{rowsVerdict, columnsVerdict}
-use Rattle.accept.specs.Windows.{Entries32, tableVerdict}
+use Rattle.accept.specs.Windows.{tableVerdict}
 use Rattle.accept.proofs.Tables.{table-condition}
 use Rattle.encode.specs.Encode.{planBytes}
 use Rattle.encode.proofs.Encoded.{encoded-equal}
 use Rattle.maker.specs.declared.parameters.Parameters.{Parameters}
 use Rattle.maker.specs.declared.taking.Taken.{Taken}
 use Rattle.maker.specs.Taken.{bareCode, cellJoint, Tables, HeldTo}
-use Rattle.maker.specs.Make.{rowTable, columnTable, takenCells, madeCode, takenVerdict, outcome}
+use Rattle.maker.specs.Make.{headerFor, rowTable, columnTable, takenCells, madeCode, takenVerdict, outcome}
 use Rattle.maker.specs.Steps.{Degrees, PowerTables}
 
 -- a power has as many digits as the degree says
@@ -49,12 +50,19 @@ row-below g D = power-below (g .rv) (polynomial (g .rv) (g .vlow)) (D .rv-pos) (
 pub column-below : (g : Parameters) → Degrees g → (k : ℕ) → columnTable g k < 2 ^ g .rh
 column-below g D = power-below (g .rh) (polynomial (g .rh) (g .hlow)) (D .rh-pos) (polynomial-degree (g .rh) (g .hlow) (D .h-below))
 
--- powers have at most 32 digits
-pub powers-small : (d low n : ℕ) (ws vs : List ℕ) → 1 ≤ d → d ≤ 32 → low < 2 ^ d → PowersIn (polynomial d low) n ws vs → Entries32 n vs
-powers-small d low n ws vs l u m P k i =
-    rw (P .value k i)
-    (omega (arith, power-below d (polynomial d low) l (polynomial-degree d low m) k, pow-mono {i = d} {j = 32} u))
+-- two tables of powers laid out, in words that were 2,792 each
+pub tables-filled : (g : Parameters) (rows₀ columns₀ rows columns : List ℕ) → length rows₀ ≡ 2792 → length columns₀ ≡ 2792
+    → PowersIn (polynomial (g .rv) (g .vlow)) (g .n1 * g .b2) rows₀ rows → PowersIn (polynomial (g .rh) (g .hlow)) (g .n2 * g .b1) columns₀ columns
+    → PowerTables g (headerFor g) rows columns
+unfolding ruled
+tables-filled g rows₀ columns₀ rows columns r c P Q = record {
+  rows-size = P .size ∙ r;
+  columns-size = Q .size ∙ c;
+  row = P .value;
+  column = Q .value;
+}
 
+-- a power has at most 32 digits
 pub power-tables : (g : Parameters) (h : Header) (rows columns : List ℕ) → Degrees g → PowerTables g h rows columns → Tables h rows columns
 power-tables g h rows columns D P = record {
   rows-size = P .rows-size;
@@ -88,14 +96,12 @@ module _ (h : Header) (p : Small h) (v w v′ w′ : ℕ → ℕ) (same-v : (k :
       (λ k _. ap (λ (ts : List ℕ). getD ts k 0 % h .n2) e))
 
 -- the conditions on tables of powers
-module _ (g : Parameters) (h : Header) (p : Small h) (ws words : List ℕ) where
-  pub row-condition : PowersIn (polynomial (g .rv) (g .vlow)) (entriesOf h Rows) ws words
-      → tableVerdict h Rows (wordAt words) ≡ rowsVerdict (bareCode h (rowTable g) (columnTable g))
-  row-condition P = table-condition h p Rows (rowTable g) (columnTable g) (λ k. 0) (λ k. 0) (wordAt words) (P .value)
+module _ (g : Parameters) (h : Header) (p : Small h) (rows columns : List ℕ) (T : PowerTables g h rows columns) where
+  pub row-condition : tableVerdict h Rows (wordAt rows) ≡ rowsVerdict (bareCode h (rowTable g) (columnTable g))
+  row-condition = table-condition h p Rows (rowTable g) (columnTable g) (λ k. 0) (λ k. 0) (wordAt rows) (T .row)
 
-  pub column-condition : PowersIn (polynomial (g .rh) (g .hlow)) (entriesOf h Columns) ws words
-      → tableVerdict h Columns (wordAt words) ≡ columnsVerdict (bareCode h (rowTable g) (columnTable g))
-  column-condition P = table-condition h p Columns (rowTable g) (columnTable g) (λ k. 0) (λ k. 0) (wordAt words) (P .value)
+  pub column-condition : tableVerdict h Columns (wordAt columns) ≡ columnsVerdict (bareCode h (rowTable g) (columnTable g))
+  column-condition = table-condition h p Columns (rowTable g) (columnTable g) (λ k. 0) (λ k. 0) (wordAt columns) (T .column)
 
 -- the check cells that are held: check 16, and the bytes of the plan where there are enough
 module _ (h : Header) (rows columns : List ℕ) (t : Taken) (T : HeldTo h rows columns (h .n1 * h .n2) t) where
