@@ -3,16 +3,24 @@
 # make lib      libsheet.a, for C          make install PREFIX=/usr/local DESTDIR=
 # make bench    times beside plain Rust (BEFORE=commit: and beside that commit's library, in the same run)
 # make host     the example host in C      make clean
+# make table    the column table of the house plan, by the program housetable
+# make find     polynomials for sheets of N1= rows and N2= columns, bursts of B1= by B2= (MOST=: so many a degree)
 CARGO_TARGET_DIR ?= $(CURDIR)/build/cargo
 export CARGO_TARGET_DIR
 PREFIX ?= /usr/local
 DESTDIR ?=
 LIB := target/staticlib/libsheet.a
 PROGRAM := target/bin/sheetread
+TABLE := target/bin/housetable
 SOURCES := crates.txt $(shell find crates -name '*.rt' -o -name '*.antt')
 INPUT ?= crates/sheetread/stdin
+N1 ?= 512
+N2 ?= 698
+B1 ?= 3
+B2 ?= 3
+MOST ?=
 
-.PHONY: run test lib host install bench clean
+.PHONY: run test lib host find table install bench clean
 
 run: $(PROGRAM)
 	@$(PROGRAM) < $(INPUT)
@@ -28,14 +36,23 @@ $(LIB): $(SOURCES)
 	@scripts/prove staticlib sheet
 	@touch $@
 
-$(PROGRAM): $(SOURCES)
-	@scripts/prove check sheetread
+# What is told meanwhile goes to standard error, so that only what the program prints is on standard output.
+$(PROGRAM) $(TABLE): $(SOURCES)
+	@scripts/prove check $(@F) >&2
 	@touch $@
 
 host: lib
 	@mkdir -p build
 	gcc -std=c99 -O2 -Iinclude examples/host.c $(LIB) -o build/host
 	@build/host
+
+table: $(TABLE)
+	@$(TABLE)
+
+find: lib
+	@mkdir -p build
+	gcc -std=c99 -O2 -Iinclude examples/find.c $(LIB) -o build/find
+	@build/find $(N1) $(N2) $(B1) $(B2) $(MOST)
 
 install: lib
 	install -d $(DESTDIR)$(PREFIX)/lib/pkgconfig $(DESTDIR)$(PREFIX)/include

@@ -1,8 +1,9 @@
 /*
  * sheet.h: pattern sheets that survive one burst.
  *
- * Four calls on byte buffers: make a plan, test a plan, write a sheet, read a sheet. Each answers one 64-bit number,
- * which the functions below take apart. The bytes of plans, sheets and data are described in docs/FORMAT.md.
+ * Five calls on byte buffers: make a plan, make the house plan, test a plan, write a sheet, read a sheet. Each answers
+ * one 64-bit number, which the functions below take apart. The bytes of plans, sheets and data are described in
+ * docs/FORMAT.md.
  *
  * Promise, proved for every accepted plan (docs/PROMISE.md): a sheet that sheet_write made, with any cells of one
  * rectangle of the plan's b1 rows and b2 columns turned over, is read back by sheet_read as it was written.
@@ -47,7 +48,8 @@ typedef char sheet_size_t_has_8_bytes[sizeof(size_t) == 8 ? 1 : -1];
 
 enum {
     SHEET_PLAN_HEADER_BYTES = 20,     /* the header of a plan: ten numbers of 16 bits */
-    SHEET_PLAN_MAKE_STACK = 98304,    /* bytes of stack that are enough for sheet_plan_make */
+    SHEET_HOUSE_PLAN_BYTES = 14684,   /* the house plan: the length that sheet_house_plan asks for */
+    SHEET_PLAN_MAKE_STACK = 98304,    /* bytes of stack that are enough for sheet_plan_make, and for sheet_house_plan */
     SHEET_PLAN_TEST_STACK = 65536,    /* bytes of stack that are enough for sheet_plan_test */
     SHEET_WRITE_READ_STACK = 65536    /* bytes of stack that are enough for sheet_write, and for sheet_read */
 };
@@ -82,6 +84,14 @@ enum {
  */
 uint64_t sheet_plan_make(uint32_t n1, uint32_t n2, uint32_t b1, uint32_t b2, uint32_t rv, uint32_t v_low, uint32_t rh,
                          uint32_t h_low, uint8_t *plan, size_t plan_len);
+
+/*
+ * Makes the house plan, for sheets of 512 rows and 698 columns and bursts of 3 by 3 cells: every byte of it, whatever
+ * the buffer held. Gives SHEET_OK; or SHEET_PLAN_LENGTH where plan_len is not SHEET_HOUSE_PLAN_BYTES, and then no byte
+ * changes. There is no other refusal. The house polynomials are those of degree 22 with 0x39f0d below it for V, and of
+ * degree 14 with 0x8f7 for H: sheet_plan_make makes the same bytes of 512, 698, 3, 3, 22, 0x39f0d, 14 and 0x8f7.
+ */
+uint64_t sheet_house_plan(uint8_t *plan, size_t plan_len);
 
 /*
  * Tests a plan: checks 1 to 10 in order.

@@ -48,6 +48,7 @@ int main(void) {
     expect("make, no plan, no burst", answers(sheet_plan_make(3, 3, 0, 1, 2, 3, 2, 3, NULL, 0), SHEET_PLAN_BURST));
     expect("make, no plan, no rows", answers(sheet_plan_make(0, 3, 1, 1, 2, 3, 2, 3, NULL, 0), SHEET_PLAN_SIZE));
     expect("make, no plan, no width", answers(sheet_plan_make(3, 3, 1, 1, 0, 3, 2, 3, NULL, 0), SHEET_PLAN_WIDTH));
+    expect("house plan, no plan", answers(sheet_house_plan(NULL, 0), SHEET_PLAN_LENGTH));
 
     expect("write, no plan", answers(sheet_write(NULL, 0, data, 1, sheet, 3), SHEET_PLAN_SHORT));
     expect("write, nothing", answers(sheet_write(NULL, 0, NULL, 0, NULL, 0), SHEET_PLAN_SHORT));

@@ -2,7 +2,7 @@
 
 use crate::answer::Answer;
 use crate::ffi::Library;
-use crate::given::Given;
+use crate::given::{Given, HOUSE};
 use crate::model::{self, Cell};
 use crate::plan::Plan;
 use crate::rng::Rng;
@@ -39,9 +39,27 @@ impl Harness {
     /// model's, and a plan that is made must serve.
     pub fn make(&mut self, given: &Given, len: usize) -> Result<Plan, Answer> {
         let held = self.rng.bytes(len);
+        let by_library = |library: &mut Library, plan: &mut [u8]| library.plan_make(given, plan);
+        self.made(given, held, by_library, |plan| model::make(given, plan))
+    }
+
+    /// Make the house plan in a buffer that holds these bytes, likewise.
+    pub fn house_plan(&mut self, held: Vec<u8>) -> Result<Plan, Answer> {
+        self.made(&HOUSE, held, Library::house_plan, model::house_plan)
+    }
+
+    /// A plan of these numbers in a buffer that holds these bytes, by the library and by the model.
+    fn made(
+        &mut self,
+        given: &Given,
+        held: Vec<u8>,
+        by_library: impl FnOnce(&mut Library, &mut [u8]) -> u64,
+        by_model: impl FnOnce(&mut [u8]) -> Answer,
+    ) -> Result<Plan, Answer> {
+        let len = held.len();
         let (mut expected, mut plan) = (held.clone(), held);
-        let answer = Answer::unpack(self.library.plan_make(given, &mut plan));
-        let told = model::make(given, &mut expected);
+        let answer = Answer::unpack(by_library(&mut self.library, &mut plan));
+        let told = by_model(&mut expected);
         assert_eq!(answer, told, "library on the left, model on the right: {given:?} in {len}");
         assert!(plan == expected, "the plan's bytes differ from the model's: {given:?}");
         if answer.is_refusal() {

@@ -65,7 +65,7 @@ impl Archive {
     }
 
     fn at_mut(&self, buffer: &mut [u8]) -> *mut u8 {
-        if self.null && buffer.is_empty() { ptr::null_mut() } else { buffer.as_mut_ptr() }
+        target(buffer, self.null)
     }
 
     pub fn plan_test(&self, plan: &[u8]) -> u64 {
@@ -96,21 +96,56 @@ impl Archive {
     }
 }
 
-/// The maker of plans of the archive under test, bare, or with null for a buffer of length 0. It is no
-/// part of `Archive`, since the archive of an earlier commit may have none.
-#[rustfmt::skip]
-pub fn plan_make(given: &Given, plan: &mut [u8], null: bool) -> u64 {
+/// Names the maker of plans of an archive, and a function that calls it: bare, or with null for a buffer
+/// of length 0.
+macro_rules! maker {
+    ($(#[$about:meta])* $name:ident: $plan_make:ident) => {
+        $(#[$about])*
+        pub fn $name(given: &Given, plan: &mut [u8], null: bool) -> u64 {
+            extern "C" {
+                fn $plan_make(
+                    n1: u32, n2: u32, b1: u32, b2: u32,
+                    rv: u32, v_low: u32, rh: u32, h_low: u32,
+                    plan: *mut u8, plan_len: usize,
+                ) -> u64;
+            }
+            let Given { n1, n2, b1, b2, rv, v_low, rh, h_low } = *given;
+            let at = target(plan, null);
+            // SAFETY: a mutable slice is writable for its length; where that is 0, any pointer may be
+            // given.
+            unsafe { $plan_make(n1, n2, b1, b2, rv, v_low, rh, h_low, at, plan.len()) }
+        }
+    };
+}
+
+maker! {
+    /// The maker of plans of the archive under test.
+    plan_make: sheet_plan_make
+}
+
+#[cfg(feature = "before")]
+maker! {
+    /// The maker of plans of an earlier commit, which has to have one.
+    plan_make_before: before_plan_make
+}
+
+/// The maker of the house plan, bare, or with null for a buffer of length 0. The archive of an earlier
+/// commit may have none.
+pub fn house_plan(plan: &mut [u8], null: bool) -> u64 {
     extern "C" {
-        fn sheet_plan_make(
-            n1: u32, n2: u32, b1: u32, b2: u32,
-            rv: u32, v_low: u32, rh: u32, h_low: u32,
-            plan: *mut u8, plan_len: usize,
-        ) -> u64;
+        fn sheet_house_plan(plan: *mut u8, plan_len: usize) -> u64;
     }
-    let Given { n1, n2, b1, b2, rv, v_low, rh, h_low } = *given;
-    let at = if null && plan.is_empty() { ptr::null_mut() } else { plan.as_mut_ptr() };
-    // SAFETY: a mutable slice is writable for its length; where that is 0, any pointer may be given.
-    unsafe { sheet_plan_make(n1, n2, b1, b2, rv, v_low, rh, h_low, at, plan.len()) }
+    // SAFETY: as for `plan_make`.
+    unsafe { sheet_house_plan(target(plan, null), plan.len()) }
+}
+
+/// Where a call is to write; null for a buffer of length 0, if that is asked for.
+fn target(buffer: &mut [u8], null: bool) -> *mut u8 {
+    if null && buffer.is_empty() {
+        ptr::null_mut()
+    } else {
+        buffer.as_mut_ptr()
+    }
 }
 
 /// The calls on guarded buffers: each buffer lies amid random bytes at a random alignment, and
@@ -135,9 +170,18 @@ impl Library {
     }
 
     pub fn plan_make(&mut self, given: &Given, plan: &mut [u8]) -> u64 {
+        self.made(plan, |target, null| plan_make(given, target, null))
+    }
+
+    pub fn house_plan(&mut self, plan: &mut [u8]) -> u64 {
+        self.made(plan, house_plan)
+    }
+
+    /// A call that makes a plan and has no other buffer.
+    fn made(&mut self, plan: &mut [u8], call: impl FnOnce(&mut [u8], bool) -> u64) -> u64 {
         let mut target = Guarded::new("plan", plan, &mut self.rng);
         let null = self.rng.one_in(2);
-        let answer = plan_make(given, target.content_mut(), null);
+        let answer = call(target.content_mut(), null);
         target.hand_back(answer, plan);
         answer
     }

@@ -1,6 +1,6 @@
-//! What the maker of plans is given (request a of document 02).
+//! What the maker of plans is given (request a of document 02), and the house numbers (request d).
 
-use crate::make::{random_shape, Polynomial};
+use crate::make::{random_shape, Polynomial, H_3X3, V_3X3};
 use crate::plan::Plan;
 use crate::rng::Rng;
 
@@ -18,9 +18,13 @@ pub struct Given {
     pub h_low: u32,
 }
 
+/// The house numbers (request d of 02): 3 × 3 bursts on 512 rows and 698 columns, and the house
+/// polynomials.
+pub const HOUSE: Given = Given::new([512, 698, 3, 3], V_3X3, H_3X3);
+
 impl Given {
     /// Bursts of b1 × b2 on n1 rows and n2 columns, and two polynomials.
-    pub fn new(sizes: [u32; 4], v: Polynomial, h: Polynomial) -> Given {
+    pub const fn new(sizes: [u32; 4], v: Polynomial, h: Polynomial) -> Given {
         let [n1, n2, b1, b2] = sizes;
         let (rv, rh) = (v.degree as u32, h.degree as u32);
         Given { n1, n2, b1, b2, rv, v_low: v.low, rh, h_low: h.low }

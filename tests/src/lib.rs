@@ -1,6 +1,6 @@
-//! An independent model of the product of document 01 (01-scope.md) and request a of document 02
-//! (02-change-requests.md), written from their words alone, and what the tests and timings of
-//! libsheet.a need beside it.
+//! An independent model of the product of document 01 (01-scope.md) and of requests a, c and d of
+//! document 02 (02-change-requests.md), written from their words alone, and what the tests and timings
+//! of libsheet.a need beside it.
 //!
 //! Words: a row is a course of 01, a column a needle, a burst a blot, a syndrome the two sums of a
 //! sheet, a check cell a cell of the check list.
@@ -14,6 +14,7 @@ pub mod damage;
 pub mod ffi;
 pub mod given;
 pub mod header;
+pub mod house;
 pub mod line;
 pub mod make;
 pub mod model;

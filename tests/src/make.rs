@@ -16,8 +16,8 @@ pub struct Polynomial {
 pub const SINGLE: Polynomial = Polynomial { degree: 10, low: 0x9 };
 
 /// Tables of powers for 3 × 3 bursts on 512 rows and 698 columns. Of all polynomials with constant
-/// term 1, none of smaller degree serves, and none of this degree with a smaller `low` (bin
-/// find_tables tries them in this order).
+/// term 1, none of smaller degree serves, and none of this degree with a smaller `low` (`make find`
+/// tries them in this order; docs/PLANS.md).
 pub const V_3X3: Polynomial = Polynomial { degree: 22, low: 0x3_9f0d };
 pub const H_3X3: Polynomial = Polynomial { degree: 14, low: 0x8f7 };
 
@@ -34,7 +34,7 @@ pub const H_EVEN: Polynomial = Polynomial { degree: 16, low: 0xd707 };
 
 /// For 4 × 4 bursts two windows that do not overlap fill all of rv = 32, and powers of z serve for
 /// a few dozen rows at best. With `field_rows` this ratio serves for 219 rows, more than any
-/// smaller number does (bin find_tables).
+/// smaller number does (bin find_tables: no call makes such a table).
 const RATIO_4X4: u32 = 0x3_2b36;
 pub const ROWS_4X4: usize = 219;
 

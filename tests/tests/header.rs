@@ -5,12 +5,12 @@ use std::thread;
 
 use sheet_tests::answer::Answer;
 use sheet_tests::cases::{plan_s, plan_t};
-use sheet_tests::ffi::{plan_make, SHEET};
-use sheet_tests::given::Given;
+use sheet_tests::ffi::{house_plan, plan_make, SHEET};
+use sheet_tests::given::{Given, HOUSE};
 use sheet_tests::header::constant;
 use sheet_tests::make::{
-    largest_4x4, no_data, powers_1x1, powers_3x3, CellOrder, H_3X3, H_4X4, H_EVEN, SINGLE, V_3X3,
-    V_EVEN, WIDE,
+    largest_4x4, no_data, powers_1x1, powers_3x3, CellOrder, H_3X3, H_4X4, H_EVEN, SINGLE, V_EVEN,
+    WIDE,
 };
 use sheet_tests::model;
 use sheet_tests::plan::{Plan, HEADER_LEN};
@@ -26,6 +26,11 @@ fn numbers_of_the_maker() {
 #[test]
 fn length_of_a_plans_header() {
     assert_eq!(constant("SHEET_PLAN_HEADER_BYTES"), HEADER_LEN);
+}
+
+#[test]
+fn length_of_the_house_plan() {
+    assert_eq!(constant("SHEET_HOUSE_PLAN_BYTES"), HOUSE.plan_len());
 }
 
 /// Make a call in a thread that has this much stack in all, for the call and for itself.
@@ -50,7 +55,7 @@ fn stack_of_making() {
     let enough = constant("SHEET_PLAN_MAKE_STACK");
     for (given, number) in [
         (Given::new([512, 698, 1, 1], SINGLE, SINGLE), 0),
-        (Given::new([512, 698, 3, 3], V_3X3, H_3X3), 0),
+        (HOUSE, 0),
         (Given::new([512, 698, 3, 3], WIDE, WIDE), 0),
         (Given::new([8, 698, 4, 4], WIDE, H_4X4), 0),
         (Given::new([512, 698, 4, 4], WIDE, H_4X4), 8),
@@ -67,6 +72,21 @@ fn stack_of_making() {
         });
         assert_eq!(Answer::unpack(answer), told, "{given:?}");
         assert!(plan == expected, "{given:?}");
+    }
+}
+
+/// The same stack is enough for the house plan, and for turning it back.
+#[test]
+fn stack_of_the_house_plan() {
+    let enough = constant("SHEET_PLAN_MAKE_STACK");
+    for (len, number) in [(HOUSE.plan_len(), 0), (HOUSE.plan_len() - 1, 5)] {
+        let (mut plan, mut expected) = (vec![0xff; len], vec![0xff; len]);
+        assert_eq!(model::house_plan(&mut expected).number, number);
+        let (answer, plan) = with_stack(enough, move || {
+            let answer = house_plan(&mut plan, false);
+            (answer, plan)
+        });
+        assert!(answer == number && plan == expected, "{answer:#x} in {len}");
     }
 }
 
@@ -139,15 +159,15 @@ fn null_where_the_length_is_0() {
         }
     }
     assert!(taken > 0, "a call with null data succeeds where there is no data");
-    let given = Given::new([512, 698, 3, 3], V_3X3, H_3X3);
     for (given, number) in [
-        (given, 5),
-        (Given { b1: 0, ..given }, 2),
-        (Given { n1: 0, ..given }, 3),
-        (Given { rv: 0, ..given }, 4),
-        (Given { v_low: 0, ..given }, 5),
+        (HOUSE, 5),
+        (Given { b1: 0, ..HOUSE }, 2),
+        (Given { n1: 0, ..HOUSE }, 3),
+        (Given { rv: 0, ..HOUSE }, 4),
+        (Given { v_low: 0, ..HOUSE }, 5),
     ] {
         assert_eq!(plan_make(&given, &mut [], true), number);
     }
+    assert_eq!(house_plan(&mut [], true), 5);
     assert_eq!(Answer::unpack(null.plan_test(&[])), Answer::refusal(1, 0, 0));
 }

@@ -3,7 +3,7 @@
 
 use sheet_tests::answer::Answer;
 use sheet_tests::compared::{plan_test, told, Harness};
-use sheet_tests::given::{altered, random_given, Given};
+use sheet_tests::given::{altered, random_given, Given, HOUSE};
 use sheet_tests::make::{
     burst_sizes, powers, Polynomial, H_3X3, H_4X4, H_EVEN, SINGLE, V_3X3, V_EVEN, WIDE,
 };
@@ -195,7 +195,7 @@ fn full_size() {
     let polynomial = |degree, low| Polynomial { degree, low };
     for (given, expected) in [
         (Given::new(full(1), SINGLE, SINGLE), Answer::default()),
-        (Given::new(full(3), V_3X3, H_3X3), Answer::default()),
+        (HOUSE, Answer::default()),
         (Given::new(full(3), WIDE, WIDE), Answer::default()),
         (Given::new([19, 698, 4, 4], polynomial(32, 0xd59e_3e53), H_4X4), Answer::default()),
         (Given::new(full(3), polynomial(24, 0xf7_9b15), H_3X3), Answer::refusal(8, 0, 482)),

@@ -6,11 +6,11 @@ use std::collections::BTreeSet;
 use sheet_tests::answer::Answer;
 use sheet_tests::cases::{plan_cases, plan_s, plan_t, read_cases, write_cases};
 use sheet_tests::damage::damaged;
-use sheet_tests::given::{altered, random_given, Given};
+use sheet_tests::given::{altered, random_given, HOUSE};
 use sheet_tests::line::{line, INPUT_LIMIT};
 use sheet_tests::make::{
     accepted, burst_sizes, largest_4x4, no_data, powers, powers_3x3, reversed_3x3, CellOrder,
-    Polynomial, H_3X3, V_3X3,
+    Polynomial,
 };
 use sheet_tests::model;
 use sheet_tests::plan::Plan;
@@ -322,8 +322,7 @@ fn made_plans() {
 #[test]
 fn full_size_plan_is_made() {
     let expected = powers_3x3(512, 698, CellOrder::Sheet, &mut Rng::new(13));
-    let given = Given::new([512, 698, 3, 3], V_3X3, H_3X3);
-    assert_eq!(model::made_plan(&given, given.plan_len()), Ok(expected));
+    assert_eq!(model::made_plan(&HOUSE, HOUSE.plan_len()), Ok(expected));
 }
 
 #[test]

@@ -1,21 +1,31 @@
-//! The built program `sheetread` beside the model's line: what it prints for what stands on its
-//! standard input. The program's path is in SHEETREAD, or `../target/bin/sheetread`.
+//! The built programs: `sheetread` beside the model's line, what it prints for what stands on its
+//! standard input; and `housetable`, which prints a table and reads nothing. Their paths are in
+//! SHEETREAD and HOUSETABLE, or `../target/bin/` and the name.
 
 use sheet_tests::cases::plan_t;
 use sheet_tests::damage::damaged;
+use sheet_tests::house;
 use sheet_tests::line::{line, INPUT_LIMIT};
 use sheet_tests::make::{accepted, burst_sizes, powers_3x3, CellOrder};
 use sheet_tests::model;
 use sheet_tests::plan::{field, set_header_field, Plan};
 use sheet_tests::rng::Rng;
 use sheet_tests::scans::{random_burst, random_data, random_sheet, turned};
+use std::env;
 use std::fs::File;
-use std::io::{ErrorKind, Read, Write};
-use std::process::{Command, Stdio};
-use std::time::Duration;
+use std::io::{pipe, ErrorKind, PipeReader, PipeWriter, Read, Seek, Write};
+use std::os::fd::AsRawFd;
+use std::os::unix::process::ExitStatusExt;
+use std::process::{Command, ExitStatus, Stdio};
+use std::thread;
+use std::time::{Duration, Instant};
 
 fn program() -> Command {
-    Command::new(std::env::var("SHEETREAD").unwrap_or_else(|_| "../target/bin/sheetread".into()))
+    Command::new(env::var("SHEETREAD").unwrap_or_else(|_| "../target/bin/sheetread".into()))
+}
+
+fn housetable() -> Command {
+    Command::new(env::var("HOUSETABLE").unwrap_or_else(|_| "../target/bin/housetable".into()))
 }
 
 /// What the program prints for an input that is handed over in pieces, with a pause between them.
@@ -32,7 +42,7 @@ fn printed_in_pieces(pieces: &[&[u8]], pause: Duration) -> String {
             Err(error) if error.kind() == ErrorKind::BrokenPipe => break,
             other => other.expect("the program reads"),
         }
-        std::thread::sleep(pause);
+        thread::sleep(pause);
     }
     drop(input);
     let mut out = String::new();
@@ -138,4 +148,80 @@ fn hundreds_of_inputs() {
     }
     println!("{taken} blotted sheets, {bare} of them with no data, {refused} damaged plans");
     assert!(taken >= 150 && refused >= 150);
+}
+
+/// The table of the model, which is the stored one, and nothing else. The program leaves its input
+/// alone: what is read of a file moves on in it.
+#[test]
+fn housetable_prints_the_table() {
+    let mut input = File::open("Cargo.toml").expect("the tests run in their package");
+    let there = input.try_clone().expect("a second handle");
+    let ended = housetable().stdin(there).output().expect("the program is built");
+    assert!(ended.status.success() && ended.stderr.is_empty(), "{ended:?}");
+    assert!(ended.stdout == house::printed().into_bytes(), "another table is printed");
+    assert!(ended.stdout == house::stored().into_bytes(), "another table is stored");
+    assert_eq!(input.stream_position().expect("a place in the file"), 0);
+}
+
+/// How housetable ends, within ten seconds, with its output to this end of a pipe or file.
+fn housetable_into(output: impl Into<Stdio>) -> ExitStatus {
+    let mut child = housetable().stdout(output).spawn().expect("the program is built");
+    let began = Instant::now();
+    loop {
+        if let Some(status) = child.try_wait().expect("a child can be asked") {
+            return status;
+        }
+        if began.elapsed() > Duration::from_secs(10) {
+            child.kill().expect("a child can be ended");
+            child.wait().expect("an end");
+            panic!("the program hangs");
+        }
+        thread::sleep(Duration::from_millis(5));
+    }
+}
+
+/// A pipe that does not block its writer and has room for so many pages of 4,096 bytes, of the 16 that
+/// Linux gives it; and what it holds.
+fn nearly_full_pipe(room: usize) -> (PipeReader, PipeWriter, usize) {
+    extern "C" {
+        fn fcntl(file: i32, command: i32, ...) -> i32;
+    }
+    const F_SETFL: i32 = 4;
+    const O_NONBLOCK: i32 = 0o4000;
+    let (mut reader, mut writer) = pipe().expect("a pipe");
+    // SAFETY: the call sets flags of an open file and touches no memory.
+    assert_eq!(unsafe { fcntl(writer.as_raw_fd(), F_SETFL, O_NONBLOCK) }, 0);
+    let mut page = [b'.'; 4096];
+    let mut held = 0;
+    while writer.write_all(&page).is_ok() {
+        held += page.len();
+    }
+    assert!(held >= room * page.len(), "the pipe takes {held} bytes only");
+    for _ in 0..room {
+        reader.read_exact(&mut page).expect("the pipe holds it");
+        held -= page.len();
+    }
+    (reader, writer, held)
+}
+
+/// A write that fails ends the program. What is printed is a first part of the table: nothing where
+/// there is no room, and all of it where there is enough.
+#[test]
+fn housetable_with_output_that_fails() {
+    let full = File::options().write(true).open("/dev/full").expect("Linux has it");
+    assert_eq!(housetable_into(full).code(), Some(0));
+    let (reader, writer) = pipe().expect("a pipe");
+    drop(reader);
+    const SIGPIPE: i32 = 13;
+    assert_eq!(housetable_into(writer).signal(), Some(SIGPIPE));
+    for room in [0, 1, 2, 12] {
+        let (mut reader, writer, held) = nearly_full_pipe(room);
+        assert_eq!(housetable_into(writer).code(), Some(0));
+        let mut out = Vec::new();
+        reader.read_to_end(&mut out).expect("the pipe ends");
+        let (table, printed) = (house::printed(), &out[held..]);
+        assert!(table.as_bytes().starts_with(printed), "room for {room} pages");
+        let whole = printed.len() == table.len();
+        assert_eq!((printed.is_empty(), whole), (room == 0, room == 12), "{room} pages");
+    }
 }

@@ -19,4 +19,5 @@ pub mod Solving
 pub mod Swept
 pub mod Keeping
 pub mod Multiplication
+pub mod PowerTable
 pub mod Taking

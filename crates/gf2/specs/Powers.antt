@@ -4,6 +4,7 @@
 --   timesZ p x          z times x modulo p: twice x, with p taken off where that makes it smaller
 --   polynomial d low    the polynomial of degree d whose coefficients below that are the digits of low
 --   power p k           z to the power k modulo p
+--   powersFrom p x n    a table of n words: the first is x, and each after it is z times the one before, modulo p
 --   PowersIn p n ws vs  the words vs are as many as ws, and the first n of them are the powers of z from 1 on
 --   firstBreak p ws     the first place k after which word k + 1 is not z times word k, or the place of the last word
 --   modulusOf ws        a polynomial by which ws may be powers: what is taken off after the first break in doubling; 1 where there is none
@@ -12,7 +13,7 @@
 use Prim.Native.Nat.{ℕ, zero, suc, _+_, _-_, _*_, _%_, _^_, _<_, min}
 use mathlib.Core.Path.{_≡_}
 use mathlib.Core.Bool.{Bool, _&&_, not, cond}
-use mathlib.Core.List.{List}
+use mathlib.Core.List.{List, [], _∷_}
 use lib.Dec.{eqb, leb}
 use lib.ListN.{length, getD}
 use Rattle.finite.specs.Search.{least}
@@ -27,6 +28,10 @@ polynomial d low = 2 ^ d + low
 unfoldable pub power : ℕ → ℕ → ℕ
 power p zero = 1
 power p (suc k) = timesZ p (power p k)
+
+unfoldable pub powersFrom : ℕ → ℕ → ℕ → List ℕ
+powersFrom p x zero = []
+powersFrom p x (suc n) = x ∷ powersFrom p (timesZ p x) n
 
 pub record PowersIn (p n : ℕ) (ws vs : List ℕ) : Type 0 where
   pub size : length vs ≡ length ws

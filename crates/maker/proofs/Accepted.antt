@@ -9,7 +9,7 @@ use mathlib.Core.List.{List}
 use Prim.Native.Nat.{ℕ, suc, _+_, _*_, _/_, _%_, _^_, _<_}
 use native.Mathlib.Nat.{mod-lt, div-lt-iff-lt-mul}
 use native.Mathlib.Omega.{arith}
-use borrow.Author.Tests.{eq-eqb, ltb-false}
+use borrow.Author.Tests.{ltb-false}
 use lib.Dec.{ltb}
 use lib.ListN.{length, getD}
 use lib.Pow.{pow-mono}
@@ -37,6 +37,7 @@ use Rattle.maker.specs.Taken.{bareCode, cellJoint}
 use Rattle.maker.specs.Make.{headerFor, rowTable, columnTable, takenCells, madeCode, takenVerdict, givenChecks, makeChecks, outcome, make}
 use Rattle.maker.proofs.Given.{given-good, ruled-twice}
 use Rattle.maker.proofs.Tabled.{row-below, column-below}
+use Rattle.maker.proofs.Made.{made-given, made-bytes}
 
 module _ (h : Header) (p : Small h) (r : h ≡ ruled h) (v w : ℕ → ℕ) (v-below : (k : ℕ) → v k < 2 ^ h .rv) (w-below : (k : ℕ) → w k < 2 ^ h .rh)
     (enough : length (takenCells h v w) ≡ h .rv + h .rh) where
@@ -183,10 +184,10 @@ make-accepted g plan e =
     let v = rowTable g in
     let w = columnTable g in
     let d = bareCode h v w in
-    let given = else-zero (givenChecks g (length plan)) (rowsVerdict d orElse columnsVerdict d orElse takenVerdict h v w) e in
-    let rows = else-zero (rowsVerdict d) (columnsVerdict d orElse takenVerdict h v w) (given .1) in
+    let rest = else-zero (givenChecks g (length plan)) (rowsVerdict d orElse columnsVerdict d orElse takenVerdict h v w) e .1 in
+    let rows = else-zero (rowsVerdict d) (columnsVerdict d orElse takenVerdict h v w) rest in
     let columns = else-zero (columnsVerdict d) (takenVerdict h v w) (rows .1) in
-    let k = given-good g (length plan) (given .0) in
-    rw (eq-eqb (makeChecks g (length plan) .number) 0 e)
+    let k = given-good g (length plan) (made-given g plan e) in
+    rw (made-bytes g plan e)
     (made-accepted h (k .small) (ruled-twice g) v w (row-below g (k .degrees)) (column-below g (k .degrees)) (taken-enough h v w (columns .1)) (rows .0)
     (columns .0))

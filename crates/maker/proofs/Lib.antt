@@ -3,5 +3,6 @@ pub mod Cells
 pub mod Given
 pub mod Outcomes
 pub mod Tabled
+pub mod Made
 pub mod Accepted
 pub mod Range

@@ -49,7 +49,7 @@ fn bad_polynomial(degree: usize, low: u64) -> bool
 }
 
 // Checks 2, 3, 4, 5 and 15, of a plan buffer of size bytes.
-pub(crate) fn given_checks(g: Parameters, size: usize) -> Verdict
+pub fn given_checks(g: Parameters, size: usize) -> Verdict
     ensures { λ r. ⌜ r ≡ givenChecks g size ⌝ }
 {
     let h = numbers(g);

@@ -3,3 +3,4 @@ pub mod Corrupted
 pub mod Reading
 pub mod Promise
 pub mod Answer
+pub mod House

@@ -1,3 +1,4 @@
--- What the three calls promise together.
+-- What the calls promise together.
 pub mod Promise
 pub mod Answer
+pub mod House

@@ -4,7 +4,7 @@
 --   read-fits     number and places of reading
 --   report-fits   the reader's five numbers
 --   plan-range, make-range, write-range, read-range   the fields of the answer of each call
---   made-range, made-packed   the answer of a call that makes a plan
+--   made-range, made-packed   the answer of either call that makes a plan
 --
 -- Assumes nothing.
 use mathlib.Core.Path.{_≡_, refl, ap}

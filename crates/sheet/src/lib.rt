@@ -1,11 +1,13 @@
 // The calls for C (include/sheet.h). Each takes whatever it is handed, and answers one 64-bit number (docs/ANSWER.md).
 // A call that turns something back changes no byte of any buffer. The data buffer is called bits here.
 ghost use mathlib.Core.Path.{_≡_};
+ghost use Rattle.houseplan.specs.HousePlan.{houseParameters};
 ghost use Rattle.sheet.specs.Calls.{planAnswer, parameters, makeReply, makeCall, writeReply, writeCall, readReply, readCall};
 use accept::test::test;
 use answer::Answer;
 use answer::pack;
 use answer::pack_places;
+use houseplan::make_house;
 use maker::making::make;
 use maker::parameters::Parameters;
 use reader::read::read;
@@ -48,6 +50,15 @@ pub extern "C" fn sheet_plan_make(
     };
     let made = make(given, plan);
     pack_places(made.number, made.p, made.q)
+}
+
+// Makes the house plan: what sheet_plan_make makes from the house numbers.
+#[no_mangle]
+pub extern "C" fn sheet_house_plan(plan: &mut [u8]) -> u64
+    ensures { λ r. ⌜ makeReply r (now (plan .exit)) ≡ makeCall houseParameters (now (plan .entry)) ⌝ }
+{
+    let house = make_house(plan);
+    pack_places(house.number, house.p, house.q)
 }
 
 // Writes the sheet that carries the data: every byte of it, whatever it held.

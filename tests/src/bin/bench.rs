@@ -6,12 +6,13 @@
 //! Tables are of two kinds: of powers, each entry z times the one before, which the plan test may
 //! know by their look; and of the same entries in another order, where it has to test all pairs.
 
+use std::array;
 use std::cell::RefCell;
 use std::hint::black_box;
 use std::time::Duration;
 
-use sheet_tests::ffi::{plan_make, Archive, SHEET};
-use sheet_tests::given::Given;
+use sheet_tests::ffi::{house_plan, plan_make, Archive, SHEET};
+use sheet_tests::given::{Given, HOUSE};
 use sheet_tests::make::{powers_1x1, powers_3x3, reversed_3x3, CellOrder, H_3X3, V_3X3};
 use sheet_tests::model::write_sheet;
 use sheet_tests::plan::Plan;
@@ -67,6 +68,7 @@ fn main() {
     println!("Best Rust: the best scalar Rust that tests all pairs.");
     println!();
     making();
+    house();
     plan_test();
     write_and_read();
     #[cfg(feature = "before")]
@@ -75,6 +77,9 @@ fn main() {
 
 type Maker = fn(&Given, &mut [u8]) -> u64;
 
+/// The call that makes a plan.
+const PLAN_MAKE: Maker = |given, plan| plan_make(given, plan, false);
+
 /// A plan of powers from its two polynomials. One row: plain Rust that tests the pairs with the first
 /// window and the first strip only, which decide for such tables.
 fn making() {
@@ -82,18 +87,10 @@ fn making() {
     println!(
         "     size   burst   library  plain Rust  one row in Rust  library/plain  library/one row"
     );
-    let library: Maker = |given, plan| plan_make(given, plan, false);
     for (n1, n2) in SIZES {
         let given = Given::new([n1 as u32, n2 as u32, 3, 3], V_3X3, H_3X3);
-        let plans = [(); 3].map(|()| RefCell::new(vec![0; given.plan_len()]));
-        let make = |maker: Maker, plan: &RefCell<Vec<u8>>| {
-            assert_eq!(maker(black_box(&given), &mut plan.borrow_mut()), 0);
-        };
-        let by_library = || make(library, &plans[0]);
-        let by_plain = || make(plain_plan_make, &plans[1]);
-        let by_one_row = || make(one_row_plan_make, &plans[2]);
-        let [library, plain, one_row] = in_turns([&by_library, &by_plain, &by_one_row]).map(median);
-        assert!(plans[0] == plans[1] && plans[0] == plans[2], "the plans differ");
+        let [library, plain, one_row] =
+            makers(&given, 0, [PLAN_MAKE, plain_plan_make, one_row_plan_make]).map(median);
         println!(
             "{n1:4} x {n2:<4} 3 x 3 {library:10.1} {plain:11.1} {one_row:16.1} {:14.2} {:16.2}",
             library / plain,
@@ -101,6 +98,37 @@ fn making() {
         );
     }
     println!();
+}
+
+/// The house plan by its own call, and from the house numbers: by the call that makes any plan, and
+/// in Rust as above.
+fn house() {
+    println!("The house plan; medians in microseconds. Maker: sheet_plan_make with its numbers");
+    println!(
+        "   library     maker  plain Rust  one row  library/maker  library/plain  library/one row"
+    );
+    let house: Maker = |_, plan| house_plan(plan, false);
+    let [library, maker, plain, one_row] =
+        makers(&HOUSE, 0, [house, PLAN_MAKE, plain_plan_make, one_row_plan_make]).map(median);
+    println!(
+        "{library:10.1} {maker:9.1} {plain:11.1} {one_row:8.1} {:14.2} {:14.2} {:16.2}",
+        library / maker,
+        library / plain,
+        library / one_row,
+    );
+    println!();
+}
+
+/// The times of each of these makers, which must give this number and leave the same plan.
+fn makers<const N: usize>(given: &Given, number: u64, makers: [Maker; N]) -> [Vec<Duration>; N] {
+    let plans = makers.map(|_| RefCell::new(vec![0; given.plan_len()]));
+    let make = |at: usize| {
+        assert_eq!(makers[at](black_box(given), &mut plans[at].borrow_mut()) & 31, number);
+    };
+    let calls: [_; N] = array::from_fn(|at| move || make(at));
+    let times = in_turns(calls.each_ref().map(|call| call as &dyn Fn()));
+    assert!(plans.iter().all(|plan| *plan == plans[0]), "the plans differ");
+    times
 }
 
 fn plan_test() {
@@ -261,15 +289,36 @@ fn compare(job: &Job) {
 
 #[cfg(feature = "before")]
 mod before {
-    use sheet_tests::ffi::BEFORE;
+    use sheet_tests::ffi::{plan_make_before, BEFORE};
+    use sheet_tests::make::{H_4X4, WIDE};
 
     use super::*;
+
+    const PLAN_MAKE_BEFORE: Maker = |given, plan| plan_make_before(given, plan, false);
+
+    /// Making plans: some that are made, and one that check 8 turns back.
+    fn making() {
+        let of_3x3 = |(n1, n2)| (Given::new([n1 as u32, n2 as u32, 3, 3], V_3X3, H_3X3), 0);
+        let turned_back = (Given::new([512, 698, 4, 4], WIDE, H_4X4), 8);
+        for (given, number) in SIZES.map(of_3x3).into_iter().chain([turned_back]) {
+            let both = [PLAN_MAKE_BEFORE, PLAN_MAKE];
+            let [before, now] = makers(&given, number, both).map(least);
+            let Given { n1, n2, b1, b2, .. } = given;
+            print!("{n1:4} x {n2:<4} {b1} x {b2}  powers");
+            print_ratio(if number == 0 { "make" } else { "make: 8" }, before, now);
+        }
+    }
+
+    fn print_ratio(call: &str, before: f64, now: f64) {
+        println!("{call:>11} {before:9.1} {now:9.1} {:15.2}", now / before);
+    }
 
     /// Whole calls, of the archive of an earlier commit and of this one, in turns.
     pub fn beside() {
         println!();
         println!("Beside the archive of the earlier commit; least times in microseconds");
         println!("{SUBJECT}       call    before   library  library/before");
+        making();
         let mut rng = Rng::new(3);
         for subject in sheets(&mut rng) {
             let job = Job::new(&subject, &mut rng);
@@ -290,7 +339,7 @@ mod before {
                 ("read", read, read_now),
             ] {
                 job.subject.print();
-                println!("{call:>11} {before:9.0} {now:9.0} {:15.2}", now / before);
+                print_ratio(call, before, now);
             }
         }
     }

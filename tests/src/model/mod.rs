@@ -1,5 +1,5 @@
-//! The four calls, by the words of documents 01 and 02 (request a) and with no eye to speed beyond
-//! what full-size sheets ask for.
+//! The five calls, by the words of documents 01 and 02 (requests a, c and d) and with no eye to speed
+//! beyond what full-size sheets ask for.
 
 mod accept;
 mod algebra;
@@ -14,7 +14,7 @@ pub use mend::{burst_by_search, burst_by_trial, smallest_rectangle};
 pub use sheet::{data_of, syndrome, turn_over, unused_bits, write_sheet, Cell};
 
 use crate::answer::Answer;
-use crate::given::Given;
+use crate::given::{Given, HOUSE};
 use crate::plan::Plan;
 
 /// Make a plan. A refusal changes nothing.
@@ -26,6 +26,12 @@ pub fn make(given: &Given, plan: &mut [u8]) -> Answer {
         }
         Err(refusal) => refusal,
     }
+}
+
+/// Make the house plan: what the maker makes from the house numbers. Their sizes are good, so that a
+/// buffer of another length is turned back with 5.
+pub fn house_plan(plan: &mut [u8]) -> Answer {
+    make(&HOUSE, plan)
 }
 
 /// Write the sheet of `data`. A refusal changes nothing.

@@ -1,27 +1,16 @@
 -- `gf2::powers::fill_powers` meets its contract. The invariant: the first k words are the first k powers, and x is the next. Assumes nothing.
 use mathlib.Core.Path.{_≡_, refl, ap, _∙_}
-use mathlib.Core.List.{List}
 use Prim.Native.Nat.{ℕ, _+_, _-_, _*_, _%_, _^_, _≤_, _<_}
-use native.Mathlib.Decide.{ℕ-discrete}
 use native.Mathlib.Numerals.{add-one}
 use native.Mathlib.Omega.{arith}
 use borrow.Author.Needs.{needs}
-use lib.ListN.{length, getD, set, length-set}
 use lib.Pow.{pow-mono}
-use lib.Seq.{getD-set-same, getD-set-other}
 use Rattle.gf2.specs.Powers.{timesZ, polynomial, power, PowersIn}
 use Rattle.gf2.proofs.Extension.{bit-is}
 use Rattle.gf2.proofs.Multiplication.{polynomial-degree, power-below}
+use Rattle.gf2.proofs.PowerTable.{powers-none, powers-stored}
 use Rattle.gf2.proofs.powers.fill_powers.Statement.{statement}
 use Rattle.gf2.proofs.powers.fill_powers.Tie as tie
-
--- one power more is stored
-one-more : (p k : ℕ) (ws vs : List ℕ) (x : ℕ) → k < length vs → PowersIn p k ws vs → x ≡ power p k → PowersIn p (k + 1) ws (set vs k x)
-one-more p k ws vs x l P e = record { size = length-set vs k x ∙ P .size; value = λ j lj. at j lj (ℕ-discrete j k) }
-  where
-    at : (j : ℕ) → j < k + 1 → Dec (j ≡ k) → getD (set vs k x) j 0 ≡ power p j
-    at j lj (yes q) = rw (q, getD-set-same vs k x 0 l) e
-    at j lj (no q) = rw (getD-set-other vs k j x 0 q) (P .value j (omega arith))
 
 -- the polynomial, as the code makes it
 made : (d low : ℕ) → d < 64 → 1 * 2 ^ d % 2 ^ 64 + low ≡ polynomial d low
@@ -47,7 +36,7 @@ add-p c =
     rw (bit-is d (omega arith)) (omega (arith, pow-mono {i = d} {j = 32} (c .before .pre .0 .1)))
 
 loop-holds : tie.Need-loop-holds Inv-loop μ-loop
-loop-holds c = (omega arith, record { size = refl; value = λ j l. absurd (omega arith) }, unfold power in refl)
+loop-holds c = (omega arith, powers-none _ _, unfold power in refl)
 
 mul-words : tie.Need-mul-words Inv-loop μ-loop
 mul-words c = search needs
@@ -77,7 +66,7 @@ loop-again c =
     let l = c .before .before .loop in
     let d = c .before .before .before .before .args .degree in (
       omega arith,
-      one-more _ _ _ _ _ (omega (arith, l .inv .1 .size)) (l .inv .1) (l .inv .2),
+      powers-stored _ _ _ _ _ (omega (arith, l .inv .1 .size)) (l .inv .1) (l .inv .2),
       c .times-z .ensures ∙ ap (λ (p : ℕ). timesZ p (l .x)) (made d _ (omega arith)) ∙ next _ _ (l .k) (l .inv .2),
     )
 

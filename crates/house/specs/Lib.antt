@@ -1,0 +1,2 @@
+-- The column table of the house plan (document 02, request d).
+pub mod House

@@ -1,0 +1,2 @@
+-- The house plan (document 02, request d).
+pub mod HousePlan

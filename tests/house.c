@@ -1,0 +1,54 @@
+/*
+ * The house plan from C: in a buffer of its length that nothing has been written to, so that valgrind tells of a byte
+ * that is left as it was and of one beyond the end; beside the maker; and in buffers of other lengths.
+ */
+#include "sheet.h"
+
+#include <stdio.h>
+#include <stdlib.h>
+#include <string.h>
+
+static int failed = 0;
+
+static void expect(const char *what, int good) {
+    if (good) return;
+    printf("FAILED: %s\n", what);
+    failed = 1;
+}
+
+static uint8_t *lent(size_t len) {
+    uint8_t *buffer = malloc(len);
+    if (buffer == NULL) exit(2);
+    return buffer;
+}
+
+/* A buffer of another length is turned back with places 0, 0, and keeps its bytes. */
+static void turned_back(size_t len) {
+    uint8_t *buffer = lent(len);
+    size_t kept = 0;
+    memset(buffer, 0xaa, len);
+    expect("another length", sheet_house_plan(buffer, len) == SHEET_PLAN_LENGTH);
+    while (kept < len && buffer[kept] == 0xaa) kept++;
+    expect("a refusal changes nothing", kept == len);
+    free(buffer);
+}
+
+int main(void) {
+    const size_t len = SHEET_HOUSE_PLAN_BYTES;
+    uint8_t *house = lent(len), *made = lent(len);
+
+    expect("the length", sheet_plan_bytes(512, 698, 3, 3, 22, 14) == len);
+    expect("the house plan is made", sheet_house_plan(house, len) == SHEET_OK);
+    expect("the maker", sheet_plan_make(512, 698, 3, 3, 22, 0x39f0d, 14, 0x8f7, made, len) == SHEET_OK);
+    expect("the plan is the maker's", memcmp(house, made, len) == 0);
+    expect("the plan is accepted", sheet_plan_test(house, len) == SHEET_OK);
+    expect("sizes", sheet_plan_sheet_bytes(house, len) == 512 * 88 && sheet_plan_data_bytes(house, len) == 44668);
+    turned_back(1);
+    turned_back(SHEET_PLAN_HEADER_BYTES);
+    turned_back(len - 1);
+    turned_back(len + 1);
+    turned_back(2 * len);
+    free(house);
+    free(made);
+    return failed;
+}
