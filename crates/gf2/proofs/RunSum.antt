@@ -1,6 +1,6 @@
 -- Laws of the sum over a run of places, from place a up to but not including place b, over any family and any bound n:
 --
---   run-sum-empty    where b is at or below a it is 0
+--   run-sum-empty    where no place of it is below n, it is 0: where b is at or below a, and where n is
 --   run-sum-single   of one place it is the value there
 --   run-sum-joined   the run a to b and then the run b to c are the run a to c
 --   run-sum-next     one place more at the end
@@ -17,7 +17,7 @@ use Rattle.gf2.proofs.Xor.{xor-zero-left}
 use Rattle.gf2.proofs.Sum.{sum-none, sum-next, sum-equal, sum-split}
 
 module _ (n : ℕ) (f : ℕ → ℕ) where
-  pub run-sum-empty : (a b : ℕ) → b ≤ a → runSum n f a b ≡ 0
+  pub run-sum-empty : (a b : ℕ) → min b n ≤ a → runSum n f a b ≡ 0
   unfolding runSum
   run-sum-empty a b l =
       let e : min b n - a ≡ 0 = omega arith in

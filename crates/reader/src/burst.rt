@@ -18,6 +18,7 @@ use payload::transfer::take;
 use plan::header::Header;
 use plan::verdict::accept;
 use syndrome::gather::sums;
+use syndrome::run::Run;
 
 // The burst with the two sums of a sheet, under an accepted plan.
 pub fn find_burst(plan: &[u8], h: Header, columns: &[u64], sheet: &[u8]) -> Found
@@ -27,7 +28,11 @@ pub fn find_burst(plan: &[u8], h: Header, columns: &[u64], sheet: &[u8]) -> Foun
     ensures { λ r. ⌜ (let c = codeWith (now (plan .entry)) h in let s = cellOf (h .n2) (now (sheet .entry)) in
         FoundFor c (rowSyndrome c s) (columnSyndrome c s) r) ⌝ }
 {
-    let s = sums(sheet, plan, h, columns);
+    let whole = Run {
+        first: 0,
+        past: h.n1,
+    };
+    let s = sums(sheet, plan, h, columns, whole);
     find(plan, h, columns, s.row, s.column)
 }
 

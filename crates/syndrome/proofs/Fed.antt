@@ -1,12 +1,13 @@
--- The sums of the rows fed so far, the last row of a sheet first:
+-- The sums of the rows of a run fed so far, its last row first:
 --
 --   fed-none    where no row is fed, the sums are 0
---   fed-after   the rows from i on are those after row i - 1
---   fed-row     row i is fed after the rows from i + 1 on
---   fed-all     when row 0 is fed, the sums are those of the sheet
+--   fed-after   the rows from number k on are those after number k - 1
+--   fed-row     row number k is fed after those from k + 1 on
+--   fed-all     when row number 0 is fed, the sums are those of the run
+--   SheetSums, sheet-sums   the run from 0 to n1 has the two sums of the sheet
 --
 -- Assumes nothing.
-use mathlib.Core.Path.{_≡_, sym, ap₂, _∙_}
+use mathlib.Core.Path.{_≡_, sym, ap, ap₂, _∙_}
 use Prim.Native.Nat.{ℕ, _+_, _-_, _≤_, _<_}
 use native.Mathlib.Omega.{arith}
 use lib.Bits.{bitXor}
@@ -15,43 +16,63 @@ use Rattle.gf2.specs.Sum.{runSum}
 use Rattle.gf2.proofs.Xor.{xor-is, xor-comm, xor-below}
 use Rattle.gf2.proofs.RunSum.{run-sum-empty, run-sum-before}
 use Rattle.boxcode.specs.Code.{Code, rowWeight, columnWeight}
-use Rattle.boxcode.specs.Syndrome.{Cells}
+use Rattle.boxcode.specs.Syndrome.{Cells, rowSyndrome, columnSyndrome}
 use Rattle.boxcode.specs.Run.{rowSum, rowSyndromeIn, columnSyndromeIn}
 use Rattle.boxcode.proofs.Run.{row-whole, column-whole}
+use Rattle.syndrome.specs.declared.run.Run.{Run}
 use Rattle.syndrome.specs.declared.sums.Sums.{Sums}
-use Rattle.syndrome.specs.Gather.{RowSums, Fed, SheetSums}
+use Rattle.syndrome.specs.Gather.{TwoSums, RowSums, runRows, Fed, RunSums}
 
--- one of the two sums: row i is added to what is held
-added : (n : ℕ) (f : ℕ → ℕ) (i x y : ℕ) → i < n → x ≡ runSum n f (i + 1) n → y ≡ f i → bitXor x y ≡ runSum n f i n
-added n f i x y l ex ey = xor-is x y ∙ ap₂ _⊕_ ex ey ∙ xor-comm (runSum n f (i + 1) n) (f i) ∙ sym (run-sum-before n f i n l l)
+-- one of the two sums: row i is added to what is held, those behind it up to row b
+added : (n : ℕ) (f : ℕ → ℕ) (i b x y : ℕ) → i < n → i < b → x ≡ runSum n f (i + 1) b → y ≡ f i → bitXor x y ≡ runSum n f i b
+added n f i b x y l lb ex ey =
+    xor-is x y ∙ ap₂ _⊕_ ex ey ∙ xor-comm (runSum n f (i + 1) b) (f i) ∙ sym (run-sum-before n f i b lb l)
 
 module _ (c : Code) (s : Cells) where
-  pub fed-none : (i : ℕ) → c .n1 ≤ i → Fed c s i (record { row = 0; column = 0 })
+  abbrev rows : ℕ → ℕ
+  rows = rowSum (c .n2) (rowWeight c) s
+
+  abbrev columns : ℕ → ℕ
+  columns = rowSum (c .n2) (columnWeight c) s
+
+  pub fed-none : (run : Run) (k : ℕ) → runRows (c .n1) run ≤ k → Fed c s run k (record { row = 0; column = 0 })
   unfolding rowSyndromeIn columnSyndromeIn
-  fed-none i l = record {
-    row = sym (run-sum-empty (c .n1) (rowSum (c .n2) (rowWeight c) s) i (c .n1) l);
-    column = sym (run-sum-empty (c .n1) (rowSum (c .n2) (columnWeight c) s) i (c .n1) l);
+  fed-none run k l = record {
+    row = sym (run-sum-empty (c .n1) rows (run .first + k) (run .past) (omega arith));
+    column = sym (run-sum-empty (c .n1) columns (run .first + k) (run .past) (omega arith));
     row-below = omega arith;
     column-below = omega arith;
   }
 
-  pub fed-after : (i : ℕ) (held : Sums) → 0 < i → Fed c s i held → Fed c s (i - 1 + 1) held
-  fed-after i held l F = let e : i - 1 + 1 ≡ i = omega arith in rw e F
+  pub fed-after : (run : Run) (k : ℕ) (held : Sums) → 0 < k → Fed c s run k held → Fed c s run (k - 1 + 1) held
+  fed-after run k held l F = let e : k - 1 + 1 ≡ k = omega arith in rw e F
 
-  pub fed-row : (i : ℕ) (held r : Sums) → i < c .n1 → Fed c s (i + 1) held → RowSums c s i r
-      → Fed c s i (record { row = bitXor (held .row) (r .row); column = bitXor (held .column) (r .column) })
+  pub fed-row : (run : Run) (k : ℕ) (held r : Sums) → k < runRows (c .n1) run → Fed c s run (k + 1) held → RowSums c s (run .first + k) r
+      → Fed c s run k (record { row = bitXor (held .row) (r .row); column = bitXor (held .column) (r .column) })
   unfolding rowSyndromeIn columnSyndromeIn
-  fed-row i held r l F t = record {
-    row = added (c .n1) (rowSum (c .n2) (rowWeight c) s) i (held .row) (r .row) l (F .row) (t .row);
-    column = added (c .n1) (rowSum (c .n2) (columnWeight c) s) i (held .column) (r .column) l (F .column) (t .column);
-    row-below = rw (xor-is (held .row) (r .row)) (xor-below 32 (held .row) (r .row) (F .row-below) (t .row-below));
-    column-below = rw (xor-is (held .column) (r .column)) (xor-below 32 (held .column) (r .column) (F .column-below) (t .column-below));
-  }
+  fed-row run k held r l F t =
+      let i = run .first + k in
+      let b = run .past in
+      let e : run .first + (k + 1) ≡ i + 1 = omega arith in
+      record {
+        row = added (c .n1) rows i b (held .row) (r .row) (omega arith) (omega arith) (F .row ∙ ap (λ (a : ℕ). runSum (c .n1) rows a b) e) (t .row);
+        column =
+            added (c .n1) columns i b (held .column) (r .column) (omega arith) (omega arith) (F .column ∙ ap (λ (a : ℕ). runSum (c .n1) columns a b) e)
+            (t .column);
+        row-below = rw (xor-is (held .row) (r .row)) (xor-below 32 (held .row) (r .row) (F .row-below) (t .row-below));
+        column-below = rw (xor-is (held .column) (r .column)) (xor-below 32 (held .column) (r .column) (F .column-below) (t .column-below));
+      }
 
-  pub fed-all : (r : Sums) → Fed c s 0 r → SheetSums c s r
-  fed-all r F = record {
-    row = F .row ∙ row-whole c s;
-    column = F .column ∙ column-whole c s;
-    row-below = F .row-below;
-    column-below = F .column-below;
+  pub fed-all : (run : Run) (r : Sums) → Fed c s run 0 r → RunSums c s (run .first) (run .past) r
+  fed-all run r F = let e : run .first + 0 ≡ run .first = omega arith in rw e at F
+
+  abbrev pub SheetSums : Sums → Type 0
+  SheetSums r = TwoSums (rowSyndrome c s) (columnSyndrome c s) r
+
+  pub sheet-sums : (r : Sums) → RunSums c s 0 (c .n1) r → SheetSums r
+  sheet-sums r R = record {
+    row = R .row ∙ row-whole c s;
+    column = R .column ∙ column-whole c s;
+    row-below = R .row-below;
+    column-below = R .column-below;
   }

@@ -1,4 +1,4 @@
--- The two sums of a sheet, gathered row by row, from the last row to the first, and byte by byte.
+-- The two sums of a run of rows, gathered row by row, from the last row to the first, and byte by byte.
 --
 --   byteSum f x j n      the exclusive-or of the weights of the n cells from column j on that stand in the byte x, with weight f of a column
 --   rowsAt, columnsAt    the weight of a column by the words of a row of V, and by the unpacked table H
@@ -8,8 +8,8 @@
 --   ByteSums .. r        r has the two sums of the cells from column j on that stand in the byte x
 --   RowSums c s i r      r has the two sums of row i of the sheet s
 --   RunSums c s a b r    r has the two sums of the rows from a up to but not including b
---   Fed c s i r          r has the two sums of the rows fed so far, those from row i on (02 b)
---   SheetSums c s r      r has the two sums of the sheet
+--   runRows n1 run       how many rows of a run are on a sheet of n1 rows
+--   Fed c s run k r      r has the two sums of the rows fed so far, those from row number k of the run on (02 b)
 use Prim.Native.Nat.{ℕ, _+_, _-_, _*_, _%_, _≤_, _<_, min}
 use mathlib.Core.Path.{_≡_}
 use mathlib.Core.List.{List}
@@ -17,8 +17,9 @@ use lib.ListN.{length, getD}
 use Rattle.finite.specs.Search.{bit}
 use Rattle.gf2.specs.Sum.{chosenSum}
 use Rattle.boxcode.specs.Code.{Code, rowWeight, columnWeight}
-use Rattle.boxcode.specs.Syndrome.{Cells, rowSyndrome, columnSyndrome}
+use Rattle.boxcode.specs.Syndrome.{Cells}
 use Rattle.boxcode.specs.Run.{rowSum, rowSyndromeIn, columnSyndromeIn}
+use Rattle.syndrome.specs.declared.run.Run.{Run}
 use Rattle.syndrome.specs.declared.sums.Sums.{Sums}
 
 unfoldable pub byteSum : (ℕ → ℕ) → ℕ → ℕ → ℕ → ℕ
@@ -62,10 +63,11 @@ RowSums c s i r = TwoSums (rowSum (c .n2) (rowWeight c) s i) (rowSum (c .n2) (co
 abbrev pub RunSums : Code → Cells → ℕ → ℕ → Sums → Type 0
 RunSums c s a b r = TwoSums (rowSyndromeIn c a b s) (columnSyndromeIn c a b s) r
 
--- 02 b)'s sentence: "at each step what is held is shown to be the two sums of the courses fed so far". The last row is fed
--- first, so the rows fed are those from i on; at n1 there is none
-abbrev pub Fed : Code → Cells → ℕ → Sums → Type 0
-Fed c s i r = RunSums c s i (c .n1) r
+-- none where the run's end is at or below its start, and none past the sheet: the subtraction stops at 0
+abbrev pub runRows : ℕ → Run → ℕ
+runRows n1 run = min (run .past) n1 - run .first
 
-abbrev pub SheetSums : Code → Cells → Sums → Type 0
-SheetSums c s r = TwoSums (rowSyndrome c s) (columnSyndrome c s) r
+-- 02 b)'s sentence: "at each step what is held is shown to be the two sums of the courses fed so far". The last row of the run
+-- is fed first, so the rows fed are those from number k of the run on
+abbrev pub Fed : Code → Cells → Run → ℕ → Sums → Type 0
+Fed c s run k r = RunSums c s (run .first + k) (run .past) r

@@ -1,4 +1,4 @@
-// Gathering the two sums: a byte, a row, the sheet from its last row to its first.
+// Gathering the two sums: a byte, a row, a run of rows from its last row to its first.
 ghost use mathlib.Core.Path.{_≡_};
 ghost use Prim.Native.Nat.{ℕ, _+_, _-_, _*_, _%_, _<_};
 ghost use lib.ListN.{length};
@@ -6,9 +6,11 @@ ghost use Rattle.layout.specs.Cells.{sheetBytes, cellOf};
 ghost use Rattle.plan.specs.Header.{Framed};
 ghost use Rattle.plan.specs.Bytes.{rowEntryAt, codeWith};
 ghost use Rattle.plan.specs.Table.{Unpacked};
-ghost use Rattle.syndrome.specs.Gather.{RowWords, Words, ByteSums, RowSums, Fed, SheetSums};
+ghost use Rattle.syndrome.specs.Gather.{RowWords, Words, ByteSums, RowSums, runRows, Fed, RunSums};
+use crate::run::Run;
 use crate::sums::Sums;
 use layout::cells::row_bytes;
+use layout::compare::larger;
 use layout::compare::smaller;
 use layout::cycle::after;
 use plan::entry::row_entry;
@@ -66,18 +68,18 @@ fn byte_sums(
     Sums { row, column }
 }
 
-// The sums of row i.
-pub fn row_sums(sheet: &[u8], plan: &[u8], h: Header, columns: &[u64], i: usize) -> Sums
+// The sums of row i. Its H entries are those of q, its number on the sheet modulo b1.
+fn row_sums(sheet: &[u8], plan: &[u8], h: Header, columns: &[u64], i: usize, q: usize) -> Sums
     requires { ⌜ Framed (now plan) h ⌝ }
     requires { ⌜ Unpacked (now plan) h (now columns) ⌝ }
     requires { ⌜ length (now sheet) ≡ sheetBytes (h .n1) (h .n2) ⌝ }
     requires { ⌜ i < h .n1 ⌝ }
+    requires { ⌜ q ≡ i % h .b1 ⌝ }
     ensures { λ r. ⌜ RowSums (codeWith (now (plan .entry)) h) (cellOf (h .n2) (now (sheet .entry))) i r ⌝ }
 {
     let rows = row_words(plan, h, i);
     let size = row_bytes(h.n2);
     let from = i * size;
-    let q = i % h.b1;
     let mut row = 0u64;
     let mut column = 0u64;
     let mut b = 0;
@@ -90,34 +92,43 @@ pub fn row_sums(sheet: &[u8], plan: &[u8], h: Header, columns: &[u64], i: usize)
     Sums { row, column }
 }
 
-// Row i is fed, after the rows from i + 1 on, whose sums are held: then those of the rows from i on are held.
-fn feed(sheet: &[u8], plan: &[u8], h: Header, columns: &[u64], i: usize, held: Sums) -> Sums
+// Row number k of the run is fed, after those behind it, whose sums are held: then those from row number k on are held.
+fn feed(
+    sheet: &[u8],
+    plan: &[u8],
+    h: Header,
+    columns: &[u64],
+    run: Run,
+    k: usize,
+    held: Sums,
+) -> Sums
     requires { ⌜ Framed (now plan) h ⌝ }
     requires { ⌜ Unpacked (now plan) h (now columns) ⌝ }
     requires { ⌜ length (now sheet) ≡ sheetBytes (h .n1) (h .n2) ⌝ }
-    requires { ⌜ i < h .n1 ⌝ }
-    requires { ⌜ Fed (codeWith (now plan) h) (cellOf (h .n2) (now sheet)) (i + 1) held ⌝ }
-    ensures { λ r. ⌜ Fed (codeWith (now (plan .entry)) h) (cellOf (h .n2) (now (sheet .entry))) i r ⌝ }
+    requires { ⌜ k < runRows (h .n1) run ⌝ }
+    requires { ⌜ Fed (codeWith (now plan) h) (cellOf (h .n2) (now sheet)) run (k + 1) held ⌝ }
+    ensures { λ r. ⌜ Fed (codeWith (now (plan .entry)) h) (cellOf (h .n2) (now (sheet .entry))) run k r ⌝ }
 {
-    let s = row_sums(sheet, plan, h, columns, i);
+    let i = run.first + k;
+    let s = row_sums(sheet, plan, h, columns, i, i % h.b1);
     Sums {
         row: held.row ^ s.row,
         column: held.column ^ s.column,
     }
 }
 
-// The two sums of a sheet, fed from the last row to the first (02 b).
-pub fn sums(sheet: &[u8], plan: &[u8], h: Header, columns: &[u64]) -> Sums
+// The two sums of a run of rows (02 e), fed from its last row to its first (02 b). The whole sheet is the run from 0 to n1.
+pub fn sums(sheet: &[u8], plan: &[u8], h: Header, columns: &[u64], run: Run) -> Sums
     requires { ⌜ Framed (now plan) h ⌝ }
     requires { ⌜ Unpacked (now plan) h (now columns) ⌝ }
     requires { ⌜ length (now sheet) ≡ sheetBytes (h .n1) (h .n2) ⌝ }
-    ensures { λ r. ⌜ SheetSums (codeWith (now (plan .entry)) h) (cellOf (h .n2) (now (sheet .entry))) r ⌝ }
+    ensures { λ r. ⌜ RunSums (codeWith (now (plan .entry)) h) (cellOf (h .n2) (now (sheet .entry))) (run .first) (run .past) r ⌝ }
 {
     let mut held = Sums { row: 0, column: 0 };
-    let mut i = h.n1;
-    while 0 < i {
-        i -= 1;
-        held = feed(sheet, plan, h, columns, i, held);
+    let mut k = larger(run.first, smaller(run.past, h.n1)) - run.first;
+    while 0 < k {
+        k -= 1;
+        held = feed(sheet, plan, h, columns, run, k, held);
     }
     held
 }

@@ -16,6 +16,7 @@ use gf2::Solution;
 use gf2::find_combination;
 use plan::header::Header;
 use syndrome::gather::sums;
+use syndrome::run::Run;
 
 // The joint sum of a sheet: its V sum, and its H sum above the rv digits of that.
 pub fn joint_sum(sheet: &[u8], plan: &[u8], h: Header, columns: &[u64]) -> u64
@@ -25,7 +26,11 @@ pub fn joint_sum(sheet: &[u8], plan: &[u8], h: Header, columns: &[u64]) -> u64
     requires { ⌜ length (now sheet) ≡ sheetBytes (h .n1) (h .n2) ⌝ }
     ensures { λ r. ⌜ JointSum (codeWith (now (plan .entry)) h) (cellOf (h .n2) (now (sheet .entry))) r ⌝ }
 {
-    let s = sums(sheet, plan, h, columns);
+    let whole = Run {
+        first: 0,
+        past: h.n1,
+    };
+    let s = sums(sheet, plan, h, columns, whole);
     s.row + (1u64 << h.rv) * s.column
 }
 

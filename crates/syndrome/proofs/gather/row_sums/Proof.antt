@@ -13,16 +13,16 @@ use Rattle.syndrome.proofs.gather.row_sums.Statement.{statement}
 use Rattle.syndrome.proofs.gather.row_sums.Tie as tie
 
 abbrev Inv-loop : tie.InvT-loop
-Inv-loop sheet plan h columns i rows size from q row₀ column₀ b₀ row column b =
-    (b ≤ size) × (size ≡ rowBytes (h .n2)) × (from ≡ i * size) × (q ≡ i % h .b1)
+Inv-loop sheet plan h columns i q rows size from row₀ column₀ b₀ row column b =
+    (b ≤ size) × (size ≡ rowBytes (h .n2)) × (from ≡ i * size)
     × RowWords (λ k. rowEntryAt plan (i * h .b2 + k)) (h .b2) rows
     × Line (h .n2) (cellOf (h .n2) sheet i) (rowsAt (h .b2) rows) (columnsAt (h .b1) q columns) row column b
 
 abbrev μ-loop : tie.MeasureT-loop
-μ-loop sheet plan h columns i rows size from q row₀ column₀ b₀ row column b = size - b
+μ-loop sheet plan h columns i q rows size from row₀ column₀ b₀ row column b = size - b
 
 row-words-requires : tie.Need-row-words-requires Inv-loop μ-loop
-row-words-requires c κs = (c .before .before .before .pre .0, c .before .before .before .pre .1 .1 .1)
+row-words-requires c κs = (c .before .before .before .pre .0, c .before .before .before .pre .1 .1 .1 .0)
 
 row-bytes-requires : tie.Need-row-bytes-requires Inv-loop μ-loop
 row-bytes-requires c κs = omega arith
@@ -36,31 +36,27 @@ mul-from c =
     let e : a .h .n1 * size ≡ length (a .sheet .now) = rw (c .row-bytes .ensures) (sym (c .before .before .before .before .before .pre .1 .1 .0)) in
     omega arith
 
-rem-q : tie.Need-rem-q Inv-loop μ-loop
-rem-q c = omega arith
-
 loop-holds : tie.Need-loop-holds Inv-loop μ-loop
 loop-holds c = (
   omega arith,
-  c .before .row-bytes .ensures,
+  c .row-bytes .ensures,
   refl,
-  refl,
-  c .before .before .row-words .ensures,
+  c .before .row-words .ensures,
   line-first _ _ _ _,
 )
 
 -- the byte
 abbrev given : tie.In-loop Inv-loop μ-loop → tie.Start Inv-loop μ-loop
-given c = c .before .before .before .before .before .before .before .before
+given c = c .before .before .before .before .before .before .before
 
 inside : (c : tie.In-loop Inv-loop μ-loop)
-    → given c .args .i * c .before .before .before .row-bytes .result + c .before .loop .b < length (given c .args .sheet .now)
+    → given c .args .i * c .before .before .row-bytes .result + c .before .loop .b < length (given c .args .sheet .now)
 unfolding sheetBytes
 inside c =
-    let s = c .before .before .before .before .before .before .before .before in
+    let s = c .before .before .before .before .before .before .before in
     let a = s .args in
-    let size = c .before .before .before .row-bytes .result in
-    let l : a .i * size + c .before .loop .b < a .h .n1 * size = digits-lt (s .pre .1 .1 .1) (c .loop-test .taken) in
+    let size = c .before .before .row-bytes .result in
+    let l : a .i * size + c .before .loop .b < a .h .n1 * size = digits-lt (s .pre .1 .1 .1 .0) (c .loop-test .taken) in
     let e : a .h .n1 * size ≡ length (a .sheet .now) = rw (c .before .loop .inv .1) (sym (s .pre .1 .1 .0)) in
     omega arith
 
@@ -77,8 +73,9 @@ mul-byte-sums c = omega arith
 byte-sums-requires : tie.Need-byte-sums-requires Inv-loop μ-loop
 unfolding rowBytes
 byte-sums-requires c κs =
-    let start = c .before .before .before .before .before .before .before .before .before in
-    (words-of _ _ (start .pre .0) _ (start .pre .1 .0) _ (start .pre .1 .1 .1) _ (c .before .before .loop .inv .4), omega arith)
+    let start = c .before .before .before .before .before .before .before .before in
+    let p = start .pre in
+    (rw (p .1 .1 .1 .1) (words-of _ _ (p .0) _ (p .1 .0) _ (p .1 .1 .1 .0) _ (c .before .before .loop .inv .3)), omega arith)
 
 add-b : tie.Need-add-b Inv-loop μ-loop
 add-b c = omega arith
@@ -94,17 +91,16 @@ loop-again c =
       omega arith,
       v .1,
       refl,
-      refl,
-      v .4,
-      line-next _ _ _ _ _ _ b _ _ (v .5) (omega arith) (λ t l. rw (v .1) (cell-in-byte _ _ _ b t l)) (c .before .before .byte-sums .ensures),
+      v .3,
+      line-next _ _ _ _ _ _ b _ _ (v .4) (omega arith) (λ t l. rw (v .1) (cell-in-byte _ _ _ b t l)) (c .before .before .byte-sums .ensures),
     )
 
 returns : tie.Need-returns Inv-loop μ-loop
 returns c =
-    let start = c .before .before .before .before .before .before .before .before in
+    let start = c .before .before .before .before .before .before .before in
     let v = c .before .loop .inv in
     let e : c .before .loop .b ≡ rowBytes (start .args .h .n2) = omega arith in
-    line-done _ _ (start .pre .0) _ (start .pre .1 .0) _ (start .pre .1 .1 .1) _ (v .4) _ _ _ _ e (v .5)
+    line-done _ _ (start .pre .0) _ (start .pre .1 .0) _ (start .pre .1 .1 .1 .0) _ (v .3) _ _ _ _ e (rw (start .pre .1 .1 .1 .1) at (v .4))
 
 pub row-sums-spec : {M : Type 1} → statement M
 row-sums-spec =
@@ -115,7 +111,6 @@ row-sums-spec =
     row-words-requires
     row-bytes-requires
     mul-from
-    rem-q
     loop-holds
     add-byte-sums
     shared-slice-read-byte-sums

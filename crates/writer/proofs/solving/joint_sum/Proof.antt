@@ -5,6 +5,7 @@ use native.Mathlib.Omega.{arith}
 use Rattle.layout.specs.Cells.{cellOf}
 use Rattle.plan.specs.Bytes.{codeWith}
 use Rattle.accept.proofs.JointEntries.{joint-word, shift-exact}
+use Rattle.syndrome.proofs.Fed.{sheet-sums}
 use Rattle.writer.specs.Steps.{JointSum}
 use Rattle.writer.proofs.Solved.{joint-value}
 use borrow.Author.Needs.{needs}
@@ -33,8 +34,8 @@ whole : (c : tie.After-sums)
     JointSum (codeWith (a .plan .now) (a .h)) (cellOf (a .h .n2) (a .sheet .now)) (c .sums .result .row + 2 ^ a .h .rv * c .sums .result .column)
 whole c =
     let a = given c in
-    joint-value (codeWith (a .args .plan .now) (a .args .h)) (a .pre .1 .0) (cellOf (a .args .h .n2) (a .args .sheet .now)) _ _ (c .sums .ensures .row)
-    (c .sums .ensures .column)
+    let s = sheet-sums _ _ _ (c .sums .ensures) in
+    joint-value (codeWith (a .args .plan .now) (a .args .h)) (a .pre .1 .0) (cellOf (a .args .h .n2) (a .args .sheet .now)) _ _ (s .row) (s .column)
 
 mul-result : tie.Need-mul-result
 mul-result c = let j = whole (c .before) in let e = word (c .before) in rw (exact (c .before)) (omega (arith, j .below))
