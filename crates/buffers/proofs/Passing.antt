@@ -4,6 +4,8 @@
 --   checked-passes, checked-stops, checked-goes-on   the same of checks that leave the column table unpacked
 --   size-most, bytes-most    there are at most 512 × 698 data bits, and 88 bytes a row
 --   length-right, right-length, unused-right, right-unused   each check passes exactly where its buffer is right
+--   SheetFits                what holds where checks 1 to 11 pass
+--   sheet-zero, sheets-pass  checks 1 to 11 pass exactly there
 --   Lengths                  what holds where checks 1 to 12 pass
 --   length-zero, lengths-pass   checks 1 to 12 pass exactly there
 --   MayWrite, MayRead        what holds where the checks before writing, and before reading, pass
@@ -33,7 +35,7 @@ use Rattle.plan.proofs.Sequence.{else-first, else-second, else-zero, if-zero}
 use Rattle.accept.specs.Verdict.{planVerdict, Accepted}
 use Rattle.accept.specs.Checked.{Checked}
 use Rattle.accept.proofs.Acceptance.{accepted-plan, plan-accepted}
-use Rattle.buffers.specs.Buffers.{lengthVerdict, unusedVerdict, lengthChecks, writeChecks, readChecks}
+use Rattle.buffers.specs.Buffers.{lengthVerdict, unusedVerdict, sheetChecks, lengthChecks, writeChecks, readChecks}
 
 pub stops : (u v : Verdict) {x : Verdict} → x ≡ u → (x .number ≡ 0 → ⊥) → x ≡ u orElse v
 stops u v {x} e h = e ∙ sym (else-first u v (λ z. h (ap (λ (y : Verdict). y .number) e ∙ z)))
@@ -86,27 +88,41 @@ right-unused n1 n2 s f = rw (form-unused n1 n2 s f, le-ltb (sheetBytes n1 n2) (s
 
 -- ---- the checks of a call
 
+number-of : {v : Verdict} → v ≡ accepted → v .number ≡ 0
+number-of e = ap (λ (v : Verdict). v .number) e
+
+pub record SheetFits (plan sheet : List ℕ) : Type 0 where
+  pub accepted : Accepted plan
+  pub sheet-size : length sheet ≡ sheetBytes (codeOf plan .n1) (codeOf plan .n2)
+
+pub sheet-zero : (plan sheet : List ℕ) → sheetChecks plan sheet .number ≡ 0 → SheetFits plan sheet
+unfolding sheetChecks
+sheet-zero plan sheet e =
+    let p = else-zero (planVerdict plan) _ e in
+    record { accepted = accepted-plan plan (p .0); sheet-size = length-right 10 sheet _ (p .1) }
+
+pub sheets-pass : (plan sheet : List ℕ) → SheetFits plan sheet → sheetChecks plan sheet ≡ accepted
+unfolding sheetChecks
+sheets-pass plan sheet F =
+    else-second (planVerdict plan) _ (number-of (plan-accepted plan (F .accepted))) ∙ right-length 11 sheet _ (F .sheet-size)
+
 pub record Lengths (plan sheet bits : List ℕ) : Type 0 where
   pub accepted : Accepted plan
   pub sheet-size : length sheet ≡ sheetBytes (codeOf plan .n1) (codeOf plan .n2)
   pub bits-size : length bits ≡ rowBytes (dataSize (codeOf plan))
 
-number-of : {v : Verdict} → v ≡ accepted → v .number ≡ 0
-number-of e = ap (λ (v : Verdict). v .number) e
-
 pub length-zero : (plan sheet bits : List ℕ) → lengthChecks plan sheet bits .number ≡ 0 → Lengths plan sheet bits
 unfolding lengthChecks
 length-zero plan sheet bits e =
-    let p = else-zero (planVerdict plan) _ e in
-    let l = else-zero (lengthVerdict 11 sheet (sheetBytes (codeOf plan .n1) (codeOf plan .n2))) _ (p .1) in
-    record { accepted = accepted-plan plan (p .0); sheet-size = length-right 10 sheet _ (l .0); bits-size = length-right 11 bits _ (l .1) }
+    let p = else-zero (sheetChecks plan sheet) _ e in
+    let F = sheet-zero plan sheet (p .0) in
+    record { accepted = F .accepted; sheet-size = F .sheet-size; bits-size = length-right 11 bits _ (p .1) }
 
 pub lengths-pass : (plan sheet bits : List ℕ) → Lengths plan sheet bits → lengthChecks plan sheet bits ≡ accepted
 unfolding lengthChecks
 lengths-pass plan sheet bits L =
-    else-second (planVerdict plan) _ (number-of (plan-accepted plan (L .accepted)))
-    ∙ else-second (lengthVerdict 11 sheet _) _ (number-of (right-length 11 sheet _ (L .sheet-size)))
-    ∙ right-length 12 bits _ (L .bits-size)
+    let F : SheetFits plan sheet = record { accepted = L .accepted; sheet-size = L .sheet-size } in
+    else-second (sheetChecks plan sheet) _ (number-of (sheets-pass plan sheet F)) ∙ right-length 12 bits _ (L .bits-size)
 
 pub record MayWrite (plan bits sheet : List ℕ) : Type 0 where
   pub lengths : Lengths plan sheet bits

@@ -5,6 +5,7 @@
 --   unusedVerdict    an unused bit of a buffer is 1, at the first such byte
 --   sheetLength      check 11, of a sheet buffer        dataLength   check 12, of a data buffer
 --   sheetUnused      check 13, of a sheet handed in     dataUnused   check 13, of data handed in
+--   sheetChecks      checks 1 to 11: the plan, and the length of the sheet
 --   lengthChecks     checks 1 to 12, which writing and reading share
 --   writeChecks      the checks before writing: 1 to 12, and 13 of the data
 --   readChecks       the checks before reading: 1 to 12, and 13 of the sheet
@@ -42,8 +43,11 @@ sheetUnused c sheet = unusedVerdict (c .n1) (c .n2) sheet
 abbrev pub dataUnused : Code → List ℕ → Verdict
 dataUnused c bits = unusedVerdict 1 (dataSize c) bits
 
+unfoldable pub sheetChecks : List ℕ → List ℕ → Verdict
+sheetChecks plan sheet = planVerdict plan orElse sheetLength (codeOf plan) sheet
+
 unfoldable pub lengthChecks : List ℕ → List ℕ → List ℕ → Verdict
-lengthChecks plan sheet bits = planVerdict plan orElse sheetLength (codeOf plan) sheet orElse dataLength (codeOf plan) bits
+lengthChecks plan sheet bits = sheetChecks plan sheet orElse dataLength (codeOf plan) bits
 
 unfoldable pub writeChecks : List ℕ → List ℕ → List ℕ → Verdict
 writeChecks plan bits sheet = lengthChecks plan sheet bits orElse dataUnused (codeOf plan) bits

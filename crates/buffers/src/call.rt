@@ -2,7 +2,7 @@
 ghost use mathlib.Core.Path.{_≡_};
 ghost use lib.ListN.{length};
 ghost use Rattle.accept.specs.Checked.{Checked};
-ghost use Rattle.buffers.specs.Buffers.{lengthChecks, writeChecks, readChecks};
+ghost use Rattle.buffers.specs.Buffers.{sheetChecks, lengthChecks, writeChecks, readChecks};
 use crate::lent::data_length;
 use crate::lent::data_unused;
 use crate::lent::sheet_length;
@@ -11,21 +11,28 @@ use accept::test::test;
 use plan::entry::header_of;
 use plan::verdict::Verdict;
 
-// The plan, and the lengths of the sheet and of the data.
-fn length_checks(plan: &[u8], sheet: &[u8], bits: &[u8], words: &mut [u64]) -> Verdict
+// The plan, and the length of the sheet.
+fn sheet_checks(plan: &[u8], sheet: &[u8], words: &mut [u64]) -> Verdict
     requires { ⌜ length (now words) ≡ 2792 ⌝ }
-    ensures { λ r. ⌜ Checked (now (plan .entry)) (lengthChecks (now (plan .entry)) (now (sheet .entry)) (now (bits .entry))) r (now (words .exit)) ⌝ }
+    ensures { λ r. ⌜ Checked (now (plan .entry)) (sheetChecks (now (plan .entry)) (now (sheet .entry))) r (now (words .exit)) ⌝ }
 {
     let tested = test(plan, words);
     if tested.number != 0 {
         return tested;
     }
-    let h = header_of(plan);
-    let first = sheet_length(h, sheet);
-    if first.number != 0 {
-        return first;
+    sheet_length(header_of(plan), sheet)
+}
+
+// The plan, and the lengths of the sheet and of the data.
+fn length_checks(plan: &[u8], sheet: &[u8], bits: &[u8], words: &mut [u64]) -> Verdict
+    requires { ⌜ length (now words) ≡ 2792 ⌝ }
+    ensures { λ r. ⌜ Checked (now (plan .entry)) (lengthChecks (now (plan .entry)) (now (sheet .entry)) (now (bits .entry))) r (now (words .exit)) ⌝ }
+{
+    let checked = sheet_checks(plan, sheet, words);
+    if checked.number != 0 {
+        return checked;
     }
-    data_length(h, bits)
+    data_length(header_of(plan), bits)
 }
 
 // The checks before writing.

@@ -19,11 +19,10 @@ use borrow.Author.Tests.{eqb-true, eqb-false, eq-eqb, ne-eqb}
 use lib.Dec.{eqb}
 use lib.ListN.{length, take, drop, replicate, length-drop}
 use lib.Seq.{take-all}
-use Rattle.plan.specs.declared.verdict.Verdict.{Verdict}
-use Rattle.plan.proofs.Sequence.{else-first}
+use Rattle.plan.proofs.Sequence.{else-first, else-still}
 use Rattle.accept.specs.Verdict.{planVerdict}
 use Rattle.accept.proofs.Acceptance.{accepted-plan}
-use Rattle.buffers.specs.Buffers.{lengthChecks, readChecks}
+use Rattle.buffers.specs.Buffers.{sheetChecks, lengthChecks, readChecks}
 use Rattle.reader.specs.Read.{Outcome, readVerdict, readOutcome}
 use Rattle.text.specs.Text.{space, hexText}
 use Rattle.line.specs.Line.{planSize, planPart, sheetPart, dataField, okLine, noLine, lineFrom, dataBytes, lineOf}
@@ -54,17 +53,21 @@ rest-part n l = let e = length-drop n l in take-all (length l - n) (drop n l) (o
 -- ---- a plan that is refused
 
 module _ (plan sheet bits : List ℕ) (h : planVerdict plan .number ≡ 0 → ⊥) where
+  sheet-plan : sheetChecks plan sheet ≡ planVerdict plan
+  unfolding sheetChecks
+  sheet-plan = else-first (planVerdict plan) _ h
+
   lengths-plan : lengthChecks plan sheet bits ≡ planVerdict plan
   unfolding lengthChecks
-  lengths-plan = else-first (planVerdict plan) _ h
+  lengths-plan = else-still _ h sheet-plan
 
   checks-plan : readChecks plan sheet bits ≡ planVerdict plan
   unfolding readChecks
-  checks-plan = else-first (lengthChecks plan sheet bits) _ (λ z. h (ap (λ (v : Verdict). v .number) (sym lengths-plan) ∙ z)) ∙ lengths-plan
+  checks-plan = else-still _ h lengths-plan
 
   verdict-plan : readVerdict plan sheet bits ≡ planVerdict plan
   unfolding readVerdict
-  verdict-plan = else-first (readChecks plan sheet bits) _ (λ z. h (ap (λ (v : Verdict). v .number) (sym checks-plan) ∙ z)) ∙ checks-plan
+  verdict-plan = else-still _ h checks-plan
 
   pub refused-line : lineFrom (readOutcome plan sheet bits) ≡ noLine (planVerdict plan)
   unfolding readOutcome lineFrom

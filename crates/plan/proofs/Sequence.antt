@@ -2,6 +2,7 @@
 --
 --   else-second   where the first check accepts, the second answers
 --   else-first    where it refuses, it answers
+--   else-still    so checks that begin with a refusal are that refusal
 --   else-if       a check whose test is false lets the next answer
 --   else-zero     a sequence accepts exactly where both parts do
 --   if-zero       a check accepts exactly where its test is false
@@ -25,6 +26,9 @@ else-second v w e = rw (eq-eqb (v .number) 0 e)
 pub else-first : (v w : Verdict) → (v .number ≡ 0 → ⊥) → v orElse w ≡ v
 unfolding _orElse_
 else-first v w h = rw (ne-eqb (v .number) 0 h)
+
+pub else-still : {u w : Verdict} (v : Verdict) → (w .number ≡ 0 → ⊥) → u ≡ w → u orElse v ≡ w
+else-still {u} v h e = else-first u v (λ z. h (ap (λ (x : Verdict). x .number) (sym e) ∙ z)) ∙ e
 
 pub else-if : (t : Bool) (v w : Verdict) → t ≡ false → (verdictIf t v orElse w) ≡ w
 else-if t v w e = else-second (verdictIf t v) w (rw e)

@@ -26,7 +26,7 @@ use Rattle.plan.specs.Verdict.{refusal, _orElse_}
 use Rattle.plan.specs.Bytes.{codeOf}
 use Rattle.accept.specs.Verdict.{planVerdict}
 use Rattle.accept.proofs.Range.{SmallVerdict, accepted-fits, else-fits, if-fits, at-fits, plan-fits}
-use Rattle.buffers.specs.Buffers.{lengthVerdict, unusedVerdict, sheetLength, dataLength, lengthChecks, writeChecks, readChecks}
+use Rattle.buffers.specs.Buffers.{lengthVerdict, unusedVerdict, sheetLength, dataLength, sheetChecks, lengthChecks, writeChecks, readChecks}
 use Rattle.buffers.proofs.Passing.{bytes-most, size-most, length-zero}
 use Rattle.mend.specs.declared.report.Report.{Report}
 use Rattle.mend.specs.Report.{reportAs}
@@ -54,14 +54,18 @@ unused-fits n1 n2 s u =
     at-fits (sheetBytes n1 n2) (firstUnused n1 n2 s) (refusal 13 (firstUnused n1 n2 s) 0)
     (λ l. record { number-fits = omega arith; p-fits = omega arith; q-fits = omega arith })
 
--- checks 1 to 12, and then others
+-- checks 1 to 11; 1 to 12, and then others
+sheets-fit : (plan sheet : List ℕ) → SmallVerdict (sheetChecks plan sheet)
+unfolding sheetChecks
+sheets-fit plan sheet =
+    let c = codeOf plan in
+    else-fits (planVerdict plan) (sheetLength c sheet) (plan-fits plan) (λ _. length-fits 11 sheet (sheetBytes (c .n1) (c .n2)) (omega arith))
+
 lengths-fit : (plan sheet bits : List ℕ) → SmallVerdict (lengthChecks plan sheet bits)
 unfolding lengthChecks
 lengths-fit plan sheet bits =
     let c = codeOf plan in
-    else-fits (planVerdict plan) (sheetLength c sheet orElse dataLength c bits) (plan-fits plan)
-    (λ _. else-fits (sheetLength c sheet) (dataLength c bits) (length-fits 11 sheet (sheetBytes (c .n1) (c .n2)) (omega arith))
-    (λ _. length-fits 12 bits (rowBytes (dataSize c)) (omega arith)))
+    else-fits (sheetChecks plan sheet) (dataLength c bits) (sheets-fit plan sheet) (λ _. length-fits 12 bits (rowBytes (dataSize c)) (omega arith))
 
 after-lengths : (plan sheet bits : List ℕ) (v : Verdict) → (Formed (codeOf plan) → SmallVerdict v) → SmallVerdict (lengthChecks plan sheet bits orElse v)
 after-lengths plan sheet bits v f =
