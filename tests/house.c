@@ -2,34 +2,17 @@
  * The house plan from C: in a buffer of its length that nothing has been written to, so that valgrind tells of a byte
  * that is left as it was and of one beyond the end; beside the maker; and in buffers of other lengths.
  */
+#include "expect.h"
 #include "sheet.h"
 
-#include <stdio.h>
-#include <stdlib.h>
 #include <string.h>
-
-static int failed = 0;
-
-static void expect(const char *what, int good) {
-    if (good) return;
-    printf("FAILED: %s\n", what);
-    failed = 1;
-}
-
-static uint8_t *lent(size_t len) {
-    uint8_t *buffer = malloc(len);
-    if (buffer == NULL) exit(2);
-    return buffer;
-}
 
 /* A buffer of another length is turned back with places 0, 0, and keeps its bytes. */
 static void turned_back(size_t len) {
     uint8_t *buffer = lent(len);
-    size_t kept = 0;
-    memset(buffer, 0xaa, len);
+    mark(buffer, len);
     expect("another length", sheet_house_plan(buffer, len) == SHEET_PLAN_LENGTH);
-    while (kept < len && buffer[kept] == 0xaa) kept++;
-    expect("a refusal changes nothing", kept == len);
+    expect("a refusal changes nothing", marked(buffer, len));
     free(buffer);
 }
 

@@ -2,10 +2,8 @@
  * Null where the length is 0: every call, each buffer in turn and all at once. Plan N holds no data, so that calls with
  * null data succeed under it. A host that asks malloc for that data's bytes may get null.
  */
+#include "expect.h"
 #include "sheet.h"
-
-#include <stdio.h>
-#include <stdlib.h>
 
 /* One row of two cells, both check cells: k is 0. */
 static const uint8_t plan_n[] = {
@@ -22,14 +20,6 @@ static const uint8_t plan_s[] = {
     0, 0, 0, 0, 1, 0, 0, 0, 2, 0, 0, 0,                             /* H */
     0, 0, 0, 0, 0, 0, 1, 0, 0, 0, 2, 0, 1, 0, 0, 0,                 /* check list */
 };
-
-static int failed = 0;
-
-static void expect(const char *what, int good) {
-    if (good) return;
-    printf("FAILED: %s\n", what);
-    failed = 1;
-}
 
 static int answers(uint64_t answer, unsigned number) { return answer == number; }
 
@@ -55,7 +45,7 @@ int main(void) {
     expect("write, no sheet", answers(sheet_write(plan_s, sizeof plan_s, data, 1, NULL, 0), SHEET_SHEET_LENGTH));
     expect("write, no data", answers(sheet_write(plan_s, sizeof plan_s, NULL, 0, sheet, 3), SHEET_DATA_LENGTH));
     expect("write, neither", answers(sheet_write(plan_n, sizeof plan_n, NULL, 0, NULL, 0), SHEET_SHEET_LENGTH));
-    expect("a refusal changes nothing", sheet[0] == 0xaa && sheet[1] == 0xaa && sheet[2] == 0xaa);
+    expect("a refusal changes nothing", marked(sheet, 3));
     expect("write, k = 0", answers(sheet_write(plan_n, sizeof plan_n, NULL, 0, sheet, 1), SHEET_OK));
     expect("the sheet is written", sheet[0] == 0 && sheet[1] == 0xaa);
 

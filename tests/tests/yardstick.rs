@@ -1,0 +1,40 @@
+//! The Rust that the library is timed against, beside the model.
+//! Nothing here calls the library.
+
+use sheet_tests::damage::damaged;
+use sheet_tests::make::{accepted, burst_sizes};
+use sheet_tests::model;
+use sheet_tests::rng::Rng;
+use sheet_tests::scans::{random_burst, random_data, turned};
+use sheet_tests::yardstick;
+
+/// The plan test, writing and reading give the model's answers.
+#[test]
+fn yardsticks_agree() {
+    let mut rng = Rng::new(9);
+    for (b1, b2) in burst_sizes() {
+        for _ in 0..20 {
+            let plan = accepted(&mut rng, b1, b2, 10);
+            for _ in 0..10 {
+                let bytes = damaged(&plan, &mut rng);
+                let answer = model::test_plan(&bytes).pack();
+                assert_eq!(yardstick::plain_plan_test(&bytes), answer);
+                assert_eq!(yardstick::best_plan_test(&bytes), answer);
+            }
+            let text = random_data(&plan, &mut rng);
+            let mut sheet = rng.bytes(plan.sheet_len());
+            yardstick::write_accepted(&plan, &text, &mut sheet);
+            assert_eq!(sheet, model::write_sheet(&plan, &text));
+            for bursts in 0..=2 {
+                let burst = |_| random_burst(&plan, &mut rng);
+                let cells: Vec<_> = (0..bursts).flat_map(burst).collect();
+                let scan = turned(&plan, &sheet, &cells);
+                let (mut mended, mut data) = (scan.clone(), rng.bytes(text.len()));
+                let (mut mended2, mut data2) = (scan.clone(), data.clone());
+                let answer = model::read_accepted(&plan, &mut mended, &mut data);
+                assert_eq!(yardstick::read_accepted(&plan, &mut mended2, &mut data2), answer);
+                assert_eq!((mended2, data2), (mended, data));
+            }
+        }
+    }
+}
