@@ -1,7 +1,7 @@
 /*
  * A whole host: makes a plan for sheets of 16 rows and 40 columns and bursts of 3 by 3 cells, writes a drawing to a
- * sheet, puts a burst on it, reads it back, and shows each step. Cells inside the mended rectangle are shown as O
- * (dark) and o (light).
+ * sheet, puts a burst on it, sums it in two halves, reads it back, and shows each step. Cells inside the mended
+ * rectangle are shown as O (dark) and o (light).
  *
  *     gcc -Iinclude examples/host.c target/staticlib/libsheet.a -o host && ./host
  */
@@ -87,6 +87,24 @@ static void show_checks(void) {
     putchar('\n');
 }
 
+static void show_pair(const char *what, uint32_t v, uint32_t h) {
+    printf("%s %06lx %04lx", what, (unsigned long)v, (unsigned long)h);
+}
+
+/* The sums of the scan's upper and lower rows, as it may come in two pieces. Joined they are those of the sheet. */
+static void show_sums(void) {
+    uint8_t upper[SHEET_SUMS_BYTES], lower[SHEET_SUMS_BYTES];
+    uint32_t v, h;
+    if (sheet_sums(plan, plan_len, scan, SHEET_LEN, 0, ROWS / 2, upper, sizeof upper) != SHEET_OK) exit(1);
+    if (sheet_sums(plan, plan_len, scan, SHEET_LEN, ROWS / 2, ROWS, lower, sizeof lower) != SHEET_OK) exit(1);
+    v = sheet_sums_v(upper) ^ sheet_sums_v(lower);
+    h = sheet_sums_h(upper) ^ sheet_sums_h(lower);
+    show_pair("sums of the upper rows", sheet_sums_v(upper), sheet_sums_h(upper));
+    show_pair(", of the lower rows", sheet_sums_v(lower), sheet_sums_h(lower));
+    show_pair(", joined", v, h);
+    printf(": %s is to be mended\n", v == 0 && h == 0 ? "nothing" : "something");
+}
+
 int main(void) {
     uint64_t answer = make_plan();
     if (sheet_answer_number(answer) != SHEET_OK) {
@@ -106,10 +124,12 @@ int main(void) {
     turn(scan, 6, 13);
     turn(scan, 7, 12);
     show("\nscanned, with a burst:", scan, 0);
+    show_sums();
 
     answer = sheet_read(plan, plan_len, scan, SHEET_LEN, back, DATA_LEN);
     if (sheet_answer_number(answer) != SHEET_OK) return 1;
     show("\nread:", scan, answer);
+    show_sums();
     printf("\n%u cells mended, at row %u, column %u, height %u, width %u\n", sheet_answer_cells(answer),
            sheet_answer_top(answer), sheet_answer_left(answer), sheet_answer_height(answer),
            sheet_answer_width(answer));

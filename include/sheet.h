@@ -1,9 +1,9 @@
 /*
  * sheet.h: pattern sheets that survive one burst.
  *
- * Five calls on byte buffers: make a plan, make the house plan, test a plan, write a sheet, read a sheet. Each answers
- * one 64-bit number, which the functions below take apart. The bytes of plans, sheets and data are described in
- * docs/FORMAT.md.
+ * Six calls on byte buffers: make a plan, make the house plan, test a plan, write a sheet, read a sheet, sum a run of
+ * rows. Each answers one 64-bit number, which the functions below take apart. The bytes of plans, sheets and data are
+ * described in docs/FORMAT.md.
  *
  * Promise, proved for every accepted plan (docs/PROMISE.md): a sheet that sheet_write made, with any cells of one
  * rectangle of the plan's b1 rows and b2 columns turned over, is read back by sheet_read as it was written.
@@ -16,7 +16,8 @@
  *     window    b1 consecutive rows                    strip    b2 consecutive columns
  *     plan      the tables under which sheets are written and read
  *     accepted  of a plan: sheet_plan_test answers SHEET_OK
- *     sums      of a sheet: the exclusive-or of the V entries, and that of the H entries, of its dark cells
+ *     run       consecutive rows, from one number up to but not including another: a run of courses
+ *     sums      of a sheet or a run: the exclusive-or of the V entries, and that of the H entries, of its dark cells
  *
  * The machine. libsheet.a is for x86-64 Linux, 64-bit: the C calling convention of System V, and a size_t of 8 bytes,
  * which is checked below. Of the C library it needs memcpy and memset, and nothing else.
@@ -49,9 +50,11 @@ typedef char sheet_size_t_has_8_bytes[sizeof(size_t) == 8 ? 1 : -1];
 enum {
     SHEET_PLAN_HEADER_BYTES = 20,     /* the header of a plan: ten numbers of 16 bits */
     SHEET_HOUSE_PLAN_BYTES = 14684,   /* the house plan: the length that sheet_house_plan asks for */
+    SHEET_SUMS_BYTES = 8,             /* the two sums of a run: the length that sheet_sums asks for */
     SHEET_PLAN_MAKE_STACK = 98304,    /* bytes of stack that are enough for sheet_plan_make, and for sheet_house_plan */
     SHEET_PLAN_TEST_STACK = 65536,    /* bytes of stack that are enough for sheet_plan_test */
-    SHEET_WRITE_READ_STACK = 65536    /* bytes of stack that are enough for sheet_write, and for sheet_read */
+    SHEET_WRITE_READ_STACK = 65536,   /* bytes of stack that are enough for sheet_write, and for sheet_read */
+    SHEET_SUMS_STACK = 65536          /* bytes of stack that are enough for sheet_sums */
 };
 
 /* The numbers of an answer, and what its places p and q tell. */
@@ -69,10 +72,11 @@ enum {
     SHEET_PLAN_DEPENDENT = 10, /* a check cell depends on earlier ones; index, 0 */
     SHEET_SHEET_LENGTH = 11,  /* the sheet buffer has another length; 0, 0 */
     SHEET_DATA_LENGTH = 12,   /* the data buffer has another length; 0, 0 */
-    SHEET_UNUSED_BIT = 13,    /* an unused bit is 1, of the sheet read or the data written; byte index, 0 */
+    SHEET_UNUSED_BIT = 13,    /* an unused bit is 1, of the sheet read or summed or the data written; byte index, 0 */
     SHEET_NOT_MENDABLE = 14,  /* no single burst brings both sums to 0; 0, 0 */
     SHEET_PLAN_POLYNOMIAL = 15, /* a polynomial has constant term 0, or a coefficient at or above its degree; 0, 0 */
-    SHEET_PLAN_FEW_CELLS = 16 /* fewer than rv + rh check cells could be taken; 0, 0 */
+    SHEET_PLAN_FEW_CELLS = 16, /* fewer than rv + rh check cells could be taken; 0, 0 */
+    SHEET_SUMS_LENGTH = 24    /* the buffer of the sums has another length; 0, 0 */
 };
 
 /*
@@ -102,8 +106,8 @@ uint64_t sheet_plan_test(const uint8_t *plan, size_t plan_len);
 /*
  * Writes the sheet that carries the data: checks 1 to 13, then every byte of the sheet, whatever it held.
  * sheet_len is sheet_plan_sheet_bytes, data_len sheet_plan_data_bytes. Leaves plan and data alone.
- * Data fills the cells that are not check cells, row by row: in even rows from column 0 up, in odd rows from the highest
- * column down. Bit d of the data is bit d % 8 of byte d / 8. Reading gives the data in the same order.
+ * Data fills the cells that are not check cells, row by row: in even rows from column 0 up, in odd rows from the
+ * highest column down. Bit d of the data is bit d % 8 of byte d / 8. Reading gives the data in the same order.
  */
 uint64_t sheet_write(const uint8_t *plan, size_t plan_len, const uint8_t *data, size_t data_len, uint8_t *sheet,
                      size_t sheet_len);
@@ -116,6 +120,17 @@ uint64_t sheet_write(const uint8_t *plan, size_t plan_len, const uint8_t *data, 
 uint64_t sheet_read(const uint8_t *plan, size_t plan_len, uint8_t *sheet, size_t sheet_len, uint8_t *data,
                     size_t data_len);
 
+/*
+ * Sums a run of rows, from row first up to but not including row past: checks 1 to 11, 13 and 24, then every byte of
+ * the sums, whatever they held: the V sum of the run's dark cells, then their H sum, 32 bits each, low byte first.
+ * first and past may be any numbers. Rows past the sheet add nothing, and a run with past at or below first is empty:
+ * its sums are 0 and 0. sums_len is SHEET_SUMS_BYTES. Leaves plan and sheet alone.
+ * Runs join: where a <= b <= c, the sums of a to b and those of b to c, exclusive-or'ed, are those of a to c. The run
+ * from 0 to n1 has the sums of the whole sheet: both are 0 exactly where sheet_read has nothing to mend.
+ */
+uint64_t sheet_sums(const uint8_t *plan, size_t plan_len, const uint8_t *sheet, size_t sheet_len, uint32_t first,
+                    uint32_t past, uint8_t *sums, size_t sums_len);
+
 /* An answer taken apart (docs/ANSWER.md). */
 static inline unsigned sheet_answer_number(uint64_t answer) { return (unsigned)(answer & 31u); }
 static inline unsigned sheet_answer_p(uint64_t answer) { return (unsigned)((answer >> 5) & 65535u); }
@@ -125,6 +140,13 @@ static inline unsigned sheet_answer_top(uint64_t answer) { return (unsigned)((an
 static inline unsigned sheet_answer_left(uint64_t answer) { return (unsigned)((answer >> 47) & 1023u); }
 static inline unsigned sheet_answer_height(uint64_t answer) { return (unsigned)((answer >> 57) & 7u); }
 static inline unsigned sheet_answer_width(uint64_t answer) { return (unsigned)((answer >> 60) & 7u); }
+
+/* The 8 bytes of the sums taken apart: the V sum and the H sum. */
+static inline uint32_t sheet_sums_v(const uint8_t *sums) {
+    return sums[0] | (uint32_t)sums[1] << 8 | (uint32_t)sums[2] << 16 | (uint32_t)sums[3] << 24;
+}
+
+static inline uint32_t sheet_sums_h(const uint8_t *sums) { return sheet_sums_v(sums + 4); }
 
 /*
  * The bytes of a plan of these sizes: the length that sheet_plan_make asks for. Any numbers may be handed in: for

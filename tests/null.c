@@ -24,7 +24,7 @@ static const uint8_t plan_s[] = {
 static int answers(uint64_t answer, unsigned number) { return answer == number; }
 
 int main(void) {
-    uint8_t sheet[3] = {0xaa, 0xaa, 0xaa}, data[1] = {0};
+    uint8_t sheet[3] = {0xaa, 0xaa, 0xaa}, data[1] = {0}, sums[SHEET_SUMS_BYTES] = {0xaa};
     uint8_t *none = malloc(sheet_plan_data_bytes(plan_n, sizeof plan_n));
     uint64_t answer;
 
@@ -60,6 +60,14 @@ int main(void) {
     expect("read, k = 0, one cell", sheet_answer_number(answer) == SHEET_OK && sheet_answer_cells(answer) == 1 &&
                                         sheet_answer_top(answer) == 0 && sheet_answer_left(answer) == 1);
     expect("the sheet is mended", sheet[0] == 0 && sheet[1] == 0xaa);
+
+    expect("sums, no plan", answers(sheet_sums(NULL, 0, sheet, 1, 0, 1, sums, 8), SHEET_PLAN_SHORT));
+    expect("sums, nothing", answers(sheet_sums(NULL, 0, NULL, 0, 0, 1, NULL, 0), SHEET_PLAN_SHORT));
+    expect("sums, no sheet", answers(sheet_sums(plan_n, sizeof plan_n, NULL, 0, 0, 1, sums, 8), SHEET_SHEET_LENGTH));
+    expect("sums, neither", answers(sheet_sums(plan_n, sizeof plan_n, NULL, 0, 0, 1, NULL, 0), SHEET_SHEET_LENGTH));
+    expect("sums, no sums", answers(sheet_sums(plan_n, sizeof plan_n, sheet, 1, 0, 1, NULL, 0), SHEET_SUMS_LENGTH));
+    expect("sums, no rows", answers(sheet_sums(plan_n, sizeof plan_n, sheet, 1, 1, 0, NULL, 0), SHEET_SUMS_LENGTH));
+    expect("a refusal changes no sums", sums[0] == 0xaa && sheet_sums_h(sums) == 0);
 
     expect("write, malloc(0)", answers(sheet_write(plan_n, sizeof plan_n, none, 0, sheet, 1), SHEET_OK));
     expect("read, malloc(0)", answers(sheet_read(plan_n, sizeof plan_n, sheet, 1, none, 0), SHEET_OK));

@@ -1,5 +1,9 @@
-//! The small plans of document 01 and what they do ("Small plans and what they do").
+//! The small plans of document 01 and what they do ("Small plans and what they do"), and sums of runs that
+//! are worked out by hand.
 
+use std::ops::Range;
+
+use crate::model::Sums;
 use crate::plan::{field, set_header_field, Plan};
 
 pub fn plan_s() -> Plan {
@@ -27,6 +31,22 @@ pub fn plan_t() -> Plan {
         v: vec![1, 2, 4, 8],
         h: vec![0, 0, 1, 2],
         checks: vec![(0, 0), (0, 1), (0, 2), (0, 3), (1, 0), (1, 1)],
+    }
+}
+
+/// No plan of 01, but a small one with bursts of two rows: 3 rows of 2 cells. Rows 0, 1 and 2 have the V
+/// entries 1, 2 and 4. Column 0 has the H entry 0; column 1 has 1 in even rows and 2 in odd ones.
+pub fn plan_two_rows() -> Plan {
+    Plan {
+        n1: 3,
+        n2: 2,
+        b1: 2,
+        b2: 1,
+        rv: 3,
+        rh: 2,
+        v: vec![1, 2, 4],
+        h: vec![0, 0, 1, 2],
+        checks: vec![(0, 0), (0, 1), (1, 0), (1, 1), (2, 0)],
     }
 }
 
@@ -101,5 +121,58 @@ pub fn read_cases() -> Vec<ReadCase> {
         t([0x03, 0x05], Some(case6)),
         t([0x0c, 0x05], None),
         t([0x01, 0x01], None),
+    ]
+}
+
+/// A plan, a sheet, and the V sum and the H sum of some of its runs.
+pub type RunCase = (Plan, Vec<u8>, Vec<(Range<u32>, Sums)>);
+
+/// Worked out by hand from the tables. Under S row i has the V entry 1, 2, 3, and column j the H entry
+/// 0, 1, 2. Under T the cells of row 0 have the V entries 1, 2, 1, 2, those of row 1 have 4, 8, 4, 8, and
+/// column j has the H entry 0, 0, 1, 2.
+// An empty run may end below its start.
+#[allow(clippy::reversed_empty_ranges)]
+pub fn run_cases() -> Vec<RunCase> {
+    let s = |sheet: [u8; 3], runs| (plan_s(), sheet.to_vec(), runs);
+    let t = |sheet: [u8; 2], runs| (plan_t(), sheet.to_vec(), runs);
+    // Case 3. Row 0 has cells 0 and 1: V 1 ^ 1 = 0, H 0 ^ 1 = 1. Row 1 has the same cells: V 2 ^ 2 = 0,
+    // H 0 ^ 1 = 1. Row 2 has cell 0: V 3, H 0. Rows 0 and 1 come to 0 and 0, and the whole sheet to what
+    // the reader mends, cell (2, 0).
+    let case3 = vec![
+        (0..1, (0, 1)),
+        (1..2, (0, 1)),
+        (2..3, (3, 0)),
+        (0..2, (0, 0)),
+        (1..3, (3, 1)),
+        (0..3, (3, 0)),
+        // Past the sheet, and empty.
+        (0..4, (3, 0)),
+        (2..u32::MAX, (3, 0)),
+        (3..9, (0, 0)),
+        (2..2, (0, 0)),
+        (3..0, (0, 0)),
+    ];
+    // Row 0 has all cells: V 1 ^ 1 ^ 1 = 1, H 0 ^ 1 ^ 2 = 3. Row 1 has cells 0 and 2: V 2 ^ 2 = 0,
+    // H 0 ^ 2 = 2. Row 2 has cell 1: V 3, H 1.
+    let mixed =
+        vec![(0..1, (1, 3)), (1..2, (0, 2)), (2..3, (3, 1)), (0..2, (1, 1)), (0..3, (2, 0))];
+    // Case 4. Row 0 as in case 3, the others light. The reader answers 14; there are sums all the same.
+    let case4 = vec![(0..3, (0, 1)), (0..1, (0, 1)), (1..3, (0, 0))];
+    // Case 6. Row 0 has cells 0 and 1: V 1 ^ 2 = 3, H 0 ^ 0 = 0. Row 1 has cells 0 and 2: V 4 ^ 4 = 0,
+    // H 0 ^ 1 = 1. The whole sheet comes to what is mended, (0, 1) and (0, 2): V 2 ^ 1 = 3, H 0 ^ 1 = 1.
+    let case6 = vec![(0..1, (3, 0)), (1..2, (0, 1)), (0..2, (3, 1)), (1..1 << 16, (0, 1))];
+    // Case 7. Row 0 has cells 2 and 3: V 1 ^ 2 = 3, H 1 ^ 2 = 3. Row 1 as in case 6.
+    let case7 = vec![(0..1, (3, 3)), (1..2, (0, 1)), (0..2, (3, 2))];
+    // Column 1 alone, in bursts of two rows. A row has the H entry of its number on the sheet, 1, 2, 1,
+    // wherever the run begins.
+    let by_number =
+        vec![(0..1, (1, 1)), (1..2, (2, 2)), (2..3, (4, 1)), (1..3, (6, 3)), (0..3, (7, 2))];
+    vec![
+        s([0x03, 0x03, 0x01], case3),
+        s([0x07, 0x05, 0x02], mixed),
+        s([0x03, 0x00, 0x00], case4),
+        t([0x03, 0x05], case6),
+        t([0x0c, 0x05], case7),
+        (plan_two_rows(), vec![0x02, 0x02, 0x02], by_number),
     ]
 }

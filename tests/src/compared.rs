@@ -1,9 +1,11 @@
 //! The library beside the model.
 
+use std::ops::Range;
+
 use crate::answer::Answer;
-use crate::ffi::Library;
+use crate::ffi::{house_plan, Library};
 use crate::given::{Given, HOUSE};
-use crate::model::{self, Cell};
+use crate::model::{self, Cell, Sums};
 use crate::plan::Plan;
 use crate::rng::Rng;
 use crate::scans::{random_burst, random_data, turned};
@@ -17,6 +19,13 @@ pub fn plan_test(library: &mut Library, bytes: &[u8]) -> u64 {
         panic!("library {told:?}, model {expected:?}, plan {:?}", Plan::parse(bytes));
     }
     answer
+}
+
+/// The house plan by its call.
+pub fn house_by_call() -> Plan {
+    let mut bytes = vec![0; HOUSE.plan_len()];
+    assert_eq!(house_plan(&mut bytes, false), 0);
+    Plan::parse(&bytes).expect("a made plan is of the right form")
 }
 
 /// The packed answer of a making.
@@ -105,6 +114,31 @@ impl Harness {
         assert!(sheet == expected, "the sheet differs from the model's");
         assert!(data == expected_data, "the data differs from the model's");
         answer
+    }
+
+    /// The sums of a run by the library, in a buffer of this length. Answer and every byte of it must be
+    /// the model's.
+    pub fn sums(&mut self, plan: &[u8], sheet: &[u8], run: Range<u32>, sums_len: usize) -> u64 {
+        let held = self.rng.bytes(sums_len);
+        let (mut expected, mut sums) = (held.clone(), held);
+        let answer = self.library.sums(plan, sheet, run.clone(), &mut sums);
+        let told = model::sums(plan, sheet, run.clone(), &mut expected);
+        let both = format!("library {:?}, model {told:?}, run {run:?}", Answer::unpack(answer));
+        assert_eq!(answer, told.pack(), "{both}");
+        assert_eq!(sums, expected, "library on the left, model on the right: {both}");
+        answer
+    }
+
+    /// The V sum and the H sum of a run by the library, which must be the model's. The plan must be
+    /// accepted and the sheet of the right form.
+    pub fn run_sums(&mut self, plan: &Plan, sheet: &[u8], run: Range<u32>) -> Sums {
+        let mut sums: [u8; 8] = [(); 8].map(|()| self.rng.bits(8) as u8);
+        assert_eq!(self.library.sums(&plan.encode(), sheet, run.clone(), &mut sums), 0);
+        let number = |at: usize| u32::from_le_bytes([0, 1, 2, 3].map(|byte| sums[at + byte]));
+        let (v, h) = (number(0), number(4));
+        let expected = model::run_sums(plan, sheet, run.clone());
+        assert_eq!((v, h), expected, "library on the left, model on the right: {run:?}, {plan:?}");
+        (v, h)
     }
 
     /// A sheet that the library wrote from random data, compared with the model's.

@@ -1,4 +1,5 @@
-//! Plans with something wrong: most are refused, a few are still accepted.
+//! Plans with something wrong: most are refused, a few are still accepted. Other buffers with a wrong
+//! length or an unused bit that is 1.
 
 use crate::plan::{field, header_field, set_header_field, Plan};
 use crate::rng::Rng;
@@ -119,4 +120,30 @@ fn damage_header(bytes: &mut [u8], rng: &mut Rng) {
     let any = [u16::MAX, 0, rng.bits(16) as u16];
     let value = if rng.one_in(5) { rng.pick(&any) } else { rng.pick(&near) };
     set_header_field(bytes, place, value);
+}
+
+/// One byte or a few more or fewer, or none at all.
+pub fn alter_length(buffer: &mut Vec<u8>, rng: &mut Rng) {
+    match rng.below(3) {
+        0 => buffer.truncate(buffer.len().saturating_sub(rng.within(1, 3))),
+        1 => buffer.clear(),
+        _ => buffer.resize(buffer.len() + rng.within(1, 3), 0),
+    }
+}
+
+/// Set an unused bit of the data, if there is any.
+pub fn set_unused_of_data(plan: &Plan, data: &mut [u8], rng: &mut Rng) {
+    let unused = 8 * plan.data_len() - plan.data_bits();
+    if unused > 0 {
+        data[plan.data_len() - 1] |= 0x80 >> rng.below(unused);
+    }
+}
+
+/// Set an unused bit of some row of the sheet, if there is any.
+pub fn set_unused_of_sheet(plan: &Plan, sheet: &mut [u8], rng: &mut Rng) {
+    let unused = 8 * plan.row_len() - plan.n2;
+    if unused > 0 {
+        let row_end = rng.within(1, plan.n1) * plan.row_len() - 1;
+        sheet[row_end] |= 0x80 >> rng.below(unused);
+    }
 }

@@ -1,5 +1,7 @@
 //! The calls of libsheet.a: bare, and on guarded buffers.
 
+use std::mem;
+use std::ops::Range;
 use std::ptr;
 
 use crate::answer::Answer;
@@ -61,7 +63,7 @@ impl Archive {
     }
 
     fn at(&self, buffer: &[u8]) -> *const u8 {
-        if self.null && buffer.is_empty() { ptr::null() } else { buffer.as_ptr() }
+        source(buffer, self.null)
     }
 
     fn at_mut(&self, buffer: &mut [u8]) -> *mut u8 {
@@ -139,6 +141,59 @@ pub fn house_plan(plan: &mut [u8], null: bool) -> u64 {
     unsafe { sheet_house_plan(target(plan, null), plan.len()) }
 }
 
+#[rustfmt::skip]
+extern "C" {
+    fn sheet_sums(
+        plan: *const u8, plan_len: usize,
+        sheet: *const u8, sheet_len: usize,
+        first: u32, past: u32,
+        sums: *mut u8, sums_len: usize,
+    ) -> u64;
+}
+
+/// The sums of a run of rows, bare, or with null for a buffer of length 0. The archive of an earlier
+/// commit may have none.
+#[rustfmt::skip]
+pub fn sums(plan: &[u8], sheet: &[u8], run: Range<u32>, into: &mut [u8], null: bool) -> u64 {
+    // SAFETY: slices are readable, and the mutable one writable and apart from the others; where a
+    // length is 0, any pointer may be given.
+    unsafe {
+        sheet_sums(
+            source(plan, null), plan.len(),
+            source(sheet, null), sheet.len(),
+            run.start, run.end,
+            target(into, null), into.len(),
+        )
+    }
+}
+
+/// The same, with all 64 bits of the two registers that the numbers are handed over in. A number is the
+/// lower half of its register, and the calling convention lets the upper half hold anything.
+#[rustfmt::skip]
+pub fn sums_by_registers(plan: &[u8], sheet: &[u8], run: Range<u64>, into: &mut [u8]) -> u64 {
+    type ByRegisters =
+        unsafe extern "C" fn(*const u8, usize, *const u8, usize, u64, u64, *mut u8, usize) -> u64;
+    // SAFETY: as for `sums`; to the machine it is the same call.
+    unsafe {
+        let call = mem::transmute::<*const (), ByRegisters>(sheet_sums as *const ());
+        call(
+            plan.as_ptr(), plan.len(),
+            sheet.as_ptr(), sheet.len(),
+            run.start, run.end,
+            into.as_mut_ptr(), into.len(),
+        )
+    }
+}
+
+/// Where a call is to look; null for a buffer of length 0, if that is asked for.
+fn source(buffer: &[u8], null: bool) -> *const u8 {
+    if null && buffer.is_empty() {
+        ptr::null()
+    } else {
+        buffer.as_ptr()
+    }
+}
+
 /// Where a call is to write; null for a buffer of length 0, if that is asked for.
 fn target(buffer: &mut [u8], null: bool) -> *mut u8 {
     if null && buffer.is_empty() {
@@ -212,6 +267,18 @@ impl Library {
         plan.assert_unchanged();
         scan.hand_back(answer, sheet);
         target.hand_back(answer, data);
+        answer
+    }
+
+    pub fn sums(&mut self, plan: &[u8], sheet: &[u8], run: Range<u32>, into: &mut [u8]) -> u64 {
+        let plan = Guarded::new("plan", plan, &mut self.rng);
+        let sheet = Guarded::new("sheet", sheet, &mut self.rng);
+        let mut target = Guarded::new("sums", into, &mut self.rng);
+        let null = self.rng.one_in(2);
+        let answer = sums(plan.content(), sheet.content(), run, target.content_mut(), null);
+        plan.assert_unchanged();
+        sheet.assert_unchanged();
+        target.hand_back(answer, into);
         answer
     }
 }

@@ -117,7 +117,7 @@ impl Plan {
     }
 
     /// The V entry of cell (i, j).
-    fn v_entry(&self, i: usize, j: usize) -> u32 {
+    pub fn v_entry(&self, i: usize, j: usize) -> u32 {
         self.v[i * self.b2 + j % self.b2]
     }
 

@@ -1,4 +1,4 @@
-//! Random data, sheets and bursts under an accepted plan.
+//! Data, sheets and bursts under an accepted plan.
 
 use crate::model::{self, Cell};
 use crate::plan::Plan;
@@ -20,6 +20,21 @@ pub fn random_sheet(plan: &Plan, rng: &mut Rng) -> Vec<u8> {
         row[plan.row_len() - 1] &= !model::unused_bits(plan);
     }
     sheet
+}
+
+/// Every sheet of the right form under a plan that has few cells, at most 8 of them a row.
+pub fn every_sheet(plan: &Plan) -> impl Iterator<Item = Vec<u8>> + '_ {
+    (0..1u32 << (plan.n1 * plan.n2)).map(|pattern| {
+        let row = |i| (pattern >> (i * plan.n2)) as u8 & !model::unused_bits(plan);
+        (0..plan.n1).map(row).collect()
+    })
+}
+
+/// The sheet with every cell dark.
+pub fn dark_sheet(plan: &Plan) -> Vec<u8> {
+    let mut row = vec![0xff; plan.row_len()];
+    row[plan.row_len() - 1] &= !model::unused_bits(plan);
+    row.repeat(plan.n1)
 }
 
 /// The cells of a random burst, in sheet order. It may be empty.

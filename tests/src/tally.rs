@@ -5,7 +5,7 @@ use std::ops::RangeInclusive;
 use crate::answer::Answer;
 
 #[derive(Default)]
-pub struct Tally([u64; 17]);
+pub struct Tally([u64; 32]);
 
 impl Tally {
     pub fn count(&mut self, packed: u64) {

@@ -3,13 +3,10 @@
 use sheet_tests::answer::Answer;
 use sheet_tests::cases::{plan_s, plan_t, read_cases, write_cases};
 use sheet_tests::compared::{Harness, Written};
-use sheet_tests::damage::damaged;
+use sheet_tests::damage::{alter_length, damaged, set_unused_of_data, set_unused_of_sheet};
 use sheet_tests::ffi::Library;
 use sheet_tests::make::{accepted, burst_sizes, largest_4x4, powers_1x1, powers_3x3, CellOrder};
-use sheet_tests::model;
-use sheet_tests::plan::Plan;
-use sheet_tests::rng::Rng;
-use sheet_tests::scans::{burst, random_burst, random_sheet, turned};
+use sheet_tests::scans::{burst, every_sheet, random_burst, random_sheet, turned};
 use sheet_tests::tally::Tally;
 
 /// Cases 2 to 7 of 01.
@@ -38,11 +35,9 @@ fn worked_sheets() {
 #[test]
 fn all_sheets_of_the_worked_plans() {
     let mut harness = Harness::new(2);
-    for (plan, sheets) in [(plan_s(), 512), (plan_t(), 256)] {
+    for plan in [plan_s(), plan_t()] {
         let bytes = plan.encode();
-        for pattern in 0..sheets {
-            let row = |i| (pattern >> (i * plan.n2)) as u8 & !model::unused_bits(&plan);
-            let scan: Vec<u8> = (0..plan.n1).map(row).collect();
+        for scan in every_sheet(&plan) {
             harness.read(&bytes, &scan, plan.data_len());
         }
         for data in 0..1 << plan.data_bits() {
@@ -144,7 +139,8 @@ fn every_number() {
                     turned(&plan, &sheet, &random_burst(&plan, rng))
                 };
                 if rng.one_in(4) {
-                    set_unused_bits(&plan, &mut data, &mut scan, rng);
+                    set_unused_of_data(&plan, &mut data, rng);
+                    set_unused_of_sheet(&plan, &mut scan, rng);
                 }
                 if rng.one_in(4) {
                     alter_length(&mut scan, rng);
@@ -159,28 +155,6 @@ fn every_number() {
     }
     writes.require("sheet_write", &[(0..=0, 1000), (1..=13, 100)]);
     reads.require("sheet_read", &[(0..=0, 1000), (1..=14, 100)]);
-}
-
-/// One byte or a few more or fewer, or none at all.
-fn alter_length(buffer: &mut Vec<u8>, rng: &mut Rng) {
-    match rng.below(3) {
-        0 => buffer.truncate(buffer.len().saturating_sub(rng.within(1, 3))),
-        1 => buffer.clear(),
-        _ => buffer.resize(buffer.len() + rng.within(1, 3), 0),
-    }
-}
-
-/// Set an unused bit of the data, and one of some row of the sheet, where there is any.
-fn set_unused_bits(plan: &Plan, data: &mut [u8], scan: &mut [u8], rng: &mut Rng) {
-    let in_data = 8 * plan.data_len() - plan.data_bits();
-    if in_data > 0 {
-        data[plan.data_len() - 1] |= 0x80 >> rng.below(in_data);
-    }
-    let in_row = 8 * plan.row_len() - plan.n2;
-    if in_row > 0 {
-        let row_end = rng.within(1, plan.n1) * plan.row_len() - 1;
-        scan[row_end] |= 0x80 >> rng.below(in_row);
-    }
 }
 
 /// Full size: bursts in all corners, at the edges and inside; two bursts; a random sheet.

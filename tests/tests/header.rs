@@ -5,7 +5,7 @@ use std::thread;
 
 use sheet_tests::answer::Answer;
 use sheet_tests::cases::{plan_s, plan_t};
-use sheet_tests::ffi::{house_plan, plan_make, SHEET};
+use sheet_tests::ffi::{house_plan, plan_make, sums, SHEET};
 use sheet_tests::given::{Given, HOUSE};
 use sheet_tests::header::constant;
 use sheet_tests::make::{
@@ -15,12 +15,19 @@ use sheet_tests::make::{
 use sheet_tests::model;
 use sheet_tests::plan::{Plan, HEADER_LEN};
 use sheet_tests::rng::Rng;
-use sheet_tests::scans::{burst, random_data, turned};
+use sheet_tests::runs::whole;
+use sheet_tests::scans::{burst, dark_sheet, random_data, turned};
 
 /// The numbers of the checks that the maker brings.
 #[test]
 fn numbers_of_the_maker() {
     assert_eq!([constant("SHEET_PLAN_POLYNOMIAL"), constant("SHEET_PLAN_FEW_CELLS")], [15, 16]);
+}
+
+/// The number of the check that the sums of a run bring, and their length.
+#[test]
+fn numbers_of_the_sums() {
+    assert_eq!([constant("SHEET_SUMS_LENGTH"), constant("SHEET_SUMS_BYTES")], [24, 8]);
 }
 
 #[test]
@@ -125,6 +132,34 @@ fn stack_of_writing_and_reading() {
     }
 }
 
+/// The whole sheet, dark in every cell; a run that goes past it; and a refusal by the last check.
+#[test]
+fn stack_of_the_sums() {
+    let enough = constant("SHEET_SUMS_STACK");
+    for plan in large_plans(&mut Rng::new(3)) {
+        for (run, len, number) in [(whole(&plan), 8, 0), (1..u32::MAX, 8, 0), (0..1, 7, 24)] {
+            let (bytes, sheet) = (plan.encode(), dark_sheet(&plan));
+            let (mut into, mut expected) = (vec![0xff; len], vec![0xff; len]);
+            let told = model::sums_accepted(&plan, &sheet, run.clone(), &mut expected);
+            assert_eq!(told.number, number);
+            let (answer, into) = with_stack(enough, move || {
+                let answer = sums(&bytes, &sheet, run, &mut into, false);
+                (answer, into)
+            });
+            assert!(answer == told.pack() && into == expected, "{answer:#x} in {len}");
+        }
+    }
+}
+
+/// Bytes, or none if a bit of `empty` says so.
+fn kept(empty: usize, buffer: usize, bytes: Vec<u8>) -> Vec<u8> {
+    if empty >> buffer & 1 == 1 {
+        vec![]
+    } else {
+        bytes
+    }
+}
+
 /// Each buffer empty and null, in each combination, under plans with data and without.
 #[test]
 fn null_where_the_length_is_0() {
@@ -132,16 +167,9 @@ fn null_where_the_length_is_0() {
     let mut taken = 0;
     for plan in [plan_s(), plan_t(), no_data()] {
         for empty in 0..8 {
-            let kept = |buffer: usize, bytes: Vec<u8>| {
-                if empty >> buffer & 1 == 1 {
-                    vec![]
-                } else {
-                    bytes
-                }
-            };
-            let bytes = kept(0, plan.encode());
-            let data = kept(1, vec![0; plan.data_len()]);
-            let sheet = kept(2, vec![0; plan.sheet_len()]);
+            let bytes = kept(empty, 0, plan.encode());
+            let data = kept(empty, 1, vec![0; plan.data_len()]);
+            let sheet = kept(empty, 2, vec![0; plan.sheet_len()]);
 
             let (mut wrote, mut expected) = (sheet.clone(), sheet.clone());
             let answer = null.write(&bytes, &data, &mut wrote);
@@ -170,4 +198,21 @@ fn null_where_the_length_is_0() {
     }
     assert_eq!(house_plan(&mut [], true), 5);
     assert_eq!(Answer::unpack(null.plan_test(&[])), Answer::refusal(1, 0, 0));
+}
+
+/// The same for the sums of a run: the plan, the sheet and the sums.
+#[test]
+fn null_sums() {
+    for plan in [plan_s(), plan_t(), no_data()] {
+        for empty in 0..8 {
+            let bytes = kept(empty, 0, plan.encode());
+            let sheet = kept(empty, 1, dark_sheet(&plan));
+            let held = kept(empty, 2, vec![0xaa; 8]);
+            let (mut into, mut expected) = (held.clone(), held);
+            let told = model::sums(&bytes, &sheet, whole(&plan), &mut expected);
+            assert_eq!(told.number, [0, 1, 11, 1, 24, 1, 11, 1][empty]);
+            assert_eq!(sums(&bytes, &sheet, whole(&plan), &mut into, true), told.pack());
+            assert_eq!(into, expected);
+        }
+    }
 }

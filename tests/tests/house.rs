@@ -5,7 +5,7 @@
 use std::collections::BTreeSet;
 
 use sheet_tests::answer::Answer;
-use sheet_tests::compared::{told, Harness};
+use sheet_tests::compared::{house_by_call, told, Harness};
 use sheet_tests::ffi::{house_plan, Library};
 use sheet_tests::given::{Given, HOUSE};
 use sheet_tests::house;
@@ -14,13 +14,6 @@ use sheet_tests::plan::Plan;
 use sheet_tests::rng::Rng;
 use sheet_tests::scans::{burst, random_burst, random_sheet, turned};
 use sheet_tests::tally::Tally;
-
-/// The house plan by the call.
-fn made() -> Plan {
-    let mut bytes = vec![0; HOUSE.plan_len()];
-    assert_eq!(house_plan(&mut bytes, false), 0);
-    Plan::parse(&bytes).expect("a made plan is of the right form")
-}
 
 /// The plan is the maker's and the model's whatever the buffer held. With each bit of the plan turned
 /// over before, no byte that the call leaves alone is right.
@@ -70,7 +63,7 @@ fn other_lengths() {
 #[test]
 fn column_table() {
     let columns = house::columns();
-    assert!(made().h == columns, "the plan has another table");
+    assert!(house_by_call().h == columns, "the plan has another table");
     assert!(house::constant() == columns, "the constant is another table");
     assert!(house::stored() == house::printed(), "the stored output is that of another table");
 }
@@ -124,7 +117,7 @@ fn sheets() {
     let mut tally = Tally::default();
     let mut bursts = 0;
     for _ in 0..3 {
-        let written = harness.written(made());
+        let written = harness.written(house_by_call());
         let plan = &written.plan;
         let (bottom, right) = (plan.n1 - plan.b1, plan.n2 - plan.b2);
         let corners = [(0, 0), (0, right), (bottom, 0), (bottom, right)];

@@ -4,7 +4,9 @@
 use std::collections::BTreeSet;
 
 use sheet_tests::answer::Answer;
-use sheet_tests::cases::{plan_cases, plan_s, plan_t, read_cases, write_cases};
+use sheet_tests::cases::{
+    plan_cases, plan_s, plan_t, plan_two_rows, read_cases, run_cases, write_cases,
+};
 use sheet_tests::given::{altered, random_given, HOUSE};
 use sheet_tests::line::{line, INPUT_LIMIT};
 use sheet_tests::make::{
@@ -14,7 +16,8 @@ use sheet_tests::make::{
 use sheet_tests::model;
 use sheet_tests::plan::Plan;
 use sheet_tests::rng::Rng;
-use sheet_tests::scans::{burst, random_burst, random_data, turned};
+use sheet_tests::runs::{joined, random_end, whole};
+use sheet_tests::scans::{burst, random_burst, random_data, random_sheet, turned};
 use sheet_tests::yardstick;
 
 #[test]
@@ -42,6 +45,38 @@ fn worked_sheets() {
                 assert_eq!((sheet, data), (mended, text));
             }
             None => assert_eq!(answer, Answer::refusal(14, 0, 0)),
+        }
+    }
+}
+
+/// Sums of runs worked out by hand. The plan that is not of 01 is accepted.
+#[test]
+fn worked_runs() {
+    assert_eq!(model::test_plan(&plan_two_rows().encode()), Answer::default());
+    for (plan, sheet, runs) in run_cases() {
+        for (run, expected) in runs {
+            assert_eq!(model::run_sums(&plan, &sheet, run.clone()), expected, "{run:?}");
+        }
+    }
+}
+
+/// 02 e): the whole sheet is the run from 0 to n1; and for a at most b at most c the sums of a to b and b
+/// to c combine to those of a to c.
+#[test]
+fn runs_of_rows() {
+    let mut rng = Rng::new(17);
+    for (b1, b2) in burst_sizes() {
+        let plan = accepted(&mut rng, b1, b2, 9);
+        for _ in 0..50 {
+            let sheet = random_sheet(&plan, &mut rng);
+            let (v, h) = model::run_sums(&plan, &sheet, whole(&plan));
+            assert_eq!(u64::from(v) | u64::from(h) << plan.rv, model::syndrome(&plan, &sheet));
+            let mut ends = [(); 3].map(|()| random_end(&plan, &mut rng));
+            ends.sort();
+            let [a, b, c] = ends;
+            let [left, right, both] =
+                [a..b, b..c, a..c].map(|run| model::run_sums(&plan, &sheet, run));
+            assert_eq!(joined(left, right), both, "{ends:?}");
         }
     }
 }

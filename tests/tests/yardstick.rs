@@ -1,11 +1,12 @@
 //! The Rust that the library is timed against, beside the model.
 //! Nothing here calls the library.
 
-use sheet_tests::damage::damaged;
+use sheet_tests::damage::{alter_length, damaged, set_unused_of_sheet};
 use sheet_tests::make::{accepted, burst_sizes};
 use sheet_tests::model;
 use sheet_tests::rng::Rng;
-use sheet_tests::scans::{random_burst, random_data, turned};
+use sheet_tests::runs::random_run;
+use sheet_tests::scans::{random_burst, random_data, random_sheet, turned};
 use sheet_tests::yardstick;
 
 /// The plan test, writing and reading give the model's answers.
@@ -34,6 +35,34 @@ fn yardsticks_agree() {
                 let answer = model::read_accepted(&plan, &mut mended, &mut data);
                 assert_eq!(yardstick::read_accepted(&plan, &mut mended2, &mut data2), answer);
                 assert_eq!((mended2, data2), (mended, data));
+            }
+        }
+    }
+}
+
+/// So do the sums of runs, under good and damaged plans, with right and wrong buffers.
+#[test]
+fn yardstick_of_the_sums_agrees() {
+    let mut rng = Rng::new(18);
+    for (b1, b2) in burst_sizes() {
+        for _ in 0..20 {
+            let plan = accepted(&mut rng, b1, b2, 10);
+            for _ in 0..20 {
+                let bytes = if rng.one_in(4) { damaged(&plan, &mut rng) } else { plan.encode() };
+                let mut sheet = random_sheet(&plan, &mut rng);
+                if rng.one_in(4) {
+                    set_unused_of_sheet(&plan, &mut sheet, &mut rng);
+                }
+                if rng.one_in(4) {
+                    alter_length(&mut sheet, &mut rng);
+                }
+                let sums_len = if rng.one_in(4) { 7 } else { 8 };
+                let mut sums = rng.bytes(sums_len);
+                let mut sums2 = sums.clone();
+                let run = random_run(&plan, &mut rng);
+                let answer = model::sums(&bytes, &sheet, run.clone(), &mut sums);
+                assert_eq!(yardstick::plain_sums(&bytes, &sheet, run, &mut sums2), answer.pack());
+                assert_eq!(sums2, sums);
             }
         }
     }

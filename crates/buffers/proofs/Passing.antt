@@ -2,6 +2,7 @@
 --
 --   stops, goes-on           the answer of a sequence of checks: the first part refuses; it passes, and the rest answers
 --   checked-passes, checked-stops, checked-goes-on   the same of checks that leave the column table unpacked
+--   checked-else             the same, where both parts are asked at once
 --   size-most, bytes-most    there are at most 512 × 698 data bits, and 88 bytes a row
 --   length-right, right-length, unused-right, right-unused   each check passes exactly where its buffer is right
 --   SheetFits                what holds where checks 1 to 11 pass
@@ -11,9 +12,11 @@
 --   MayWrite, MayRead        what holds where the checks before writing, and before reading, pass
 --   write-zero, writes-pass  the checks before writing pass exactly there
 --   read-zero, reads-pass    so do those before reading
+--   InForm, form-zero, forms-pass   the plan is accepted and the sheet of the right form: checks 1 to 11 and 13 pass exactly there
+--   MaySum, sum-zero, sums-pass     the same for the checks before the sums of a run
 --
 -- Assumes nothing.
-use mathlib.Core.Path.{_≡_, sym, ap, _∙_}
+use mathlib.Core.Path.{_≡_, sym, ap, ap₂, _∙_}
 use mathlib.Core.Bool.{not}
 use mathlib.Core.List.{List}
 use Prim.Native.Nat.{ℕ, suc, _*_, _≤_}
@@ -35,7 +38,7 @@ use Rattle.plan.proofs.Sequence.{else-first, else-second, else-zero, if-zero}
 use Rattle.accept.specs.Verdict.{planVerdict, Accepted}
 use Rattle.accept.specs.Checked.{Checked}
 use Rattle.accept.proofs.Acceptance.{accepted-plan, plan-accepted}
-use Rattle.buffers.specs.Buffers.{lengthVerdict, unusedVerdict, sheetChecks, lengthChecks, writeChecks, readChecks}
+use Rattle.buffers.specs.Buffers.{lengthVerdict, unusedVerdict, sheetChecks, lengthChecks, writeChecks, readChecks, formChecks, sumsChecks}
 
 pub stops : (u v : Verdict) {x : Verdict} → x ≡ u → (x .number ≡ 0 → ⊥) → x ≡ u orElse v
 stops u v {x} e h = e ∙ sym (else-first u v (λ z. h (ap (λ (y : Verdict). y .number) e ∙ z)))
@@ -53,6 +56,13 @@ checked-stops u v C n = record { verdict = stops u v (C .verdict) n; unpacked = 
 pub checked-goes-on : {plan words : List ℕ} (u v : Verdict) {r x : Verdict} → Checked plan u r words → r .number ≡ 0 → x ≡ v
     → Checked plan (u orElse v) x words
 checked-goes-on u v C e f = record { verdict = goes-on u v (checked-passes C e) f; unpacked = λ _. C .unpacked e }
+
+pub checked-else : {plan words : List ℕ} (u v : Verdict) {f x r : Verdict} → Checked plan u f words → x ≡ v → r ≡ f orElse x
+    → Checked plan (u orElse v) r words
+checked-else u v {f} {x} C e o = record {
+  verdict = o ∙ ap₂ _orElse_ (C .verdict) e;
+  unpacked = λ z. C .unpacked (else-zero f x (ap (λ (y : Verdict). y .number) (sym o) ∙ z) .0);
+}
 
 module _ (plan : List ℕ) where
   pub size-most : Formed (codeOf plan) → dataSize (codeOf plan) ≤ 357376
@@ -158,3 +168,36 @@ unfolding readChecks
 reads-pass plan sheet bits r =
     else-second (lengthChecks plan sheet bits) _ (number-of (lengths-pass plan sheet bits (r .lengths)))
     ∙ right-unused (codeOf plan .n1) (codeOf plan .n2) sheet (r .form)
+
+pub record InForm (plan sheet : List ℕ) : Type 0 where
+  pub accepted : Accepted plan
+  pub form : RightForm (codeOf plan .n1) (codeOf plan .n2) sheet
+
+pub form-zero : (plan sheet : List ℕ) → formChecks plan sheet .number ≡ 0 → InForm plan sheet
+unfolding formChecks
+form-zero plan sheet e =
+    let p = else-zero (sheetChecks plan sheet) _ e in
+    let F = sheet-zero plan sheet (p .0) in
+    record { accepted = F .accepted; form = unused-right (codeOf plan .n1) (codeOf plan .n2) sheet (F .sheet-size) (p .1) }
+
+pub forms-pass : (plan sheet : List ℕ) → InForm plan sheet → formChecks plan sheet ≡ accepted
+unfolding formChecks
+forms-pass plan sheet F =
+    let S : SheetFits plan sheet = record { accepted = F .accepted; sheet-size = F .form .size } in
+    else-second (sheetChecks plan sheet) _ (number-of (sheets-pass plan sheet S))
+    ∙ right-unused (codeOf plan .n1) (codeOf plan .n2) sheet (F .form)
+
+pub record MaySum (plan sheet sums : List ℕ) : Type 0 where
+  pub right : InForm plan sheet
+  pub room : length sums ≡ 8
+
+pub sum-zero : (plan sheet sums : List ℕ) → sumsChecks plan sheet sums .number ≡ 0 → MaySum plan sheet sums
+unfolding sumsChecks
+sum-zero plan sheet sums e =
+    let p = else-zero (formChecks plan sheet) _ e in
+    record { right = form-zero plan sheet (p .0); room = length-right 23 sums 8 (p .1) }
+
+pub sums-pass : (plan sheet sums : List ℕ) → MaySum plan sheet sums → sumsChecks plan sheet sums ≡ accepted
+unfolding sumsChecks
+sums-pass plan sheet sums m =
+    else-second (formChecks plan sheet) _ (number-of (forms-pass plan sheet (m .right))) ∙ right-length 24 sums 8 (m .room)

@@ -1,14 +1,17 @@
--- The checks of the buffers that a call is lent (document 01, checks 11 to 13), each a definition of its own, and the checks of a call: a
--- list of these in the order of document 01, after the test of the plan.
+-- The checks of the buffers that a call is lent (document 01, checks 11 to 13; document 02, check 24), each a definition of its own, and the
+-- checks of a call: a list of these in the order of the document, after the test of the plan.
 --
 --   lengthVerdict    the length of a buffer differs
 --   unusedVerdict    an unused bit of a buffer is 1, at the first such byte
 --   sheetLength      check 11, of a sheet buffer        dataLength   check 12, of a data buffer
 --   sheetUnused      check 13, of a sheet handed in     dataUnused   check 13, of data handed in
+--   sumsLength       check 24, of a buffer for two sums
 --   sheetChecks      checks 1 to 11: the plan, and the length of the sheet
 --   lengthChecks     checks 1 to 12, which writing and reading share
 --   writeChecks      the checks before writing: 1 to 12, and 13 of the data
 --   readChecks       the checks before reading: 1 to 12, and 13 of the sheet
+--   formChecks       checks 1 to 11, and 13 of the sheet: the plan is accepted, and the sheet is of the right form
+--   sumsChecks       the checks before the sums of a run: 1 to 11, 13 of the sheet, and 24
 --
 -- A string of k bits of data is stored as one row of k cells.
 use Prim.Native.Nat.{ℕ}
@@ -43,6 +46,10 @@ sheetUnused c sheet = unusedVerdict (c .n1) (c .n2) sheet
 abbrev pub dataUnused : Code → List ℕ → Verdict
 dataUnused c bits = unusedVerdict 1 (dataSize c) bits
 
+-- 8 bytes: two sums of 32 bits
+abbrev pub sumsLength : List ℕ → Verdict
+sumsLength sums = lengthVerdict 24 sums 8
+
 unfoldable pub sheetChecks : List ℕ → List ℕ → Verdict
 sheetChecks plan sheet = planVerdict plan orElse sheetLength (codeOf plan) sheet
 
@@ -54,3 +61,9 @@ writeChecks plan bits sheet = lengthChecks plan sheet bits orElse dataUnused (co
 
 unfoldable pub readChecks : List ℕ → List ℕ → List ℕ → Verdict
 readChecks plan sheet bits = lengthChecks plan sheet bits orElse sheetUnused (codeOf plan) sheet
+
+unfoldable pub formChecks : List ℕ → List ℕ → Verdict
+formChecks plan sheet = sheetChecks plan sheet orElse sheetUnused (codeOf plan) sheet
+
+unfoldable pub sumsChecks : List ℕ → List ℕ → List ℕ → Verdict
+sumsChecks plan sheet sums = formChecks plan sheet orElse sumsLength sums

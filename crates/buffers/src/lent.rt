@@ -71,3 +71,10 @@ pub fn data_unused(h: Header, bits: &[u8]) -> Verdict
 {
     unused_verdict(bits, 1, data_size(h))
 }
+
+// Check 24: the length of a buffer for two sums.
+pub fn sums_length(sums: &[u8]) -> Verdict
+    ensures { λ r. ⌜ r ≡ lengthVerdict 24 (now (sums .entry)) 8 ⌝ }
+{
+    length_verdict(24, sums, 8)
+}

@@ -5,16 +5,18 @@
 --   run-sum-joined   the run a to b and then the run b to c are the run a to c
 --   run-sum-next     one place more at the end
 --   run-sum-before   one place more at the front
+--   run-sum-past     places from n on add nothing
 --   run-sum-whole    the run 0 to n is the whole sum
+--   run-sum-below    a bound by a power of two
 --
 -- Assumes nothing.
 use mathlib.Core.Path.{_≡_, sym, ap, _∙_}
-use Prim.Native.Nat.{ℕ, _+_, _-_, _≤_, _<_, min}
+use Prim.Native.Nat.{ℕ, _+_, _-_, _^_, _≤_, _<_, min}
 use native.Mathlib.Omega.{arith}
 use Rattle.gf2.specs.Xor.{_⊕_}
 use Rattle.gf2.specs.Sum.{xorSum, runSum}
 use Rattle.gf2.proofs.Xor.{xor-zero-left}
-use Rattle.gf2.proofs.Sum.{sum-none, sum-next, sum-equal, sum-split}
+use Rattle.gf2.proofs.Sum.{sum-none, sum-next, sum-equal, sum-split, sum-below}
 
 module _ (n : ℕ) (f : ℕ → ℕ) where
   pub run-sum-empty : (a b : ℕ) → min b n ≤ a → runSum n f a b ≡ 0
@@ -47,6 +49,16 @@ module _ (n : ℕ) (f : ℕ → ℕ) where
 
   pub run-sum-before : (a b : ℕ) → a < b → a < n → runSum n f a b ≡ f a ⊕ runSum n f (a + 1) b
   run-sum-before a b l m = run-sum-joined a (a + 1) b (omega arith) (omega arith) ∙ ap (λ (v : ℕ). v ⊕ runSum n f (a + 1) b) (run-sum-single a m)
+
+  pub run-sum-past : (a b : ℕ) → runSum n f a b ≡ runSum n f a (min b n)
+  unfolding runSum
+  run-sum-past a b =
+      let e : min b n - a ≡ min (min b n) n - a = omega arith in
+      ap (λ (m : ℕ). xorSum m (λ k. f (a + k))) e
+
+  pub run-sum-below : (w a b : ℕ) → ((k : ℕ) → k < n → f k < 2 ^ w) → runSum n f a b < 2 ^ w
+  unfolding runSum
+  run-sum-below w a b h = sum-below w (min b n - a) (λ k. f (a + k)) (λ k l. h (a + k) (omega arith))
 
   pub run-sum-whole : runSum n f 0 n ≡ xorSum n f
   unfolding runSum

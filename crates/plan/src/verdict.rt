@@ -1,6 +1,6 @@
 // The answer of a check: 0, or its number in document 01's table with two places.
 ghost use mathlib.Core.Path.{_≡_};
-ghost use Rattle.plan.specs.Verdict.{accepted, refusal, verdictIf};
+ghost use Rattle.plan.specs.Verdict.{accepted, refusal, verdictIf, _orElse_};
 
 pub struct Verdict {
     pub number: usize,
@@ -34,4 +34,11 @@ pub fn refuse_if(bad: bool, number: usize, p: usize, q: usize) -> Verdict
         return refuse(number, p, q);
     }
     accept()
+}
+
+// The first of two checks if it refuses, else the second.
+pub fn or_else(first: Verdict, second: Verdict) -> Verdict
+    ensures { λ r. ⌜ r ≡ first orElse second ⌝ }
+{
+    if first.number == 0 { second } else { first }
 }

@@ -1,6 +1,6 @@
 -- The answers of the calls, taken apart: one declaration for each theorem of specs/Answer.antt, of that type.
 --
---   plan-carries, make-carries, write-carries, read-carries
+--   plan-carries, make-carries, write-carries, read-carries, sums-carries
 --
 -- Assumes nothing.
 use Rattle.answer.proofs.Fields.{packed-carries}
@@ -8,8 +8,9 @@ use Rattle.accept.specs.Verdict.{planVerdict}
 use Rattle.maker.specs.Make.{make}
 use Rattle.writer.specs.Write.{write}
 use Rattle.reader.specs.Read.{readOutcome}
-use Rattle.sheet.specs.Calls.{verdictFields, reportFields, planAnswer, makeCall, writeCall, readCall}
-use Rattle.sheet.proofs.Ranges.{plan-range, make-range, write-range, read-range}
+use Rattle.runsums.specs.RunSums.{sumRun}
+use Rattle.sheet.specs.Calls.{verdictFields, reportFields, planAnswer, makeCall, writeCall, readCall, sumsCall}
+use Rattle.sheet.proofs.Ranges.{plan-range, make-range, write-range, read-range, sums-range}
 use Rattle.promise.specs.Answer as promise
 
 pub plan-carries : promise.PlanCarries
@@ -29,3 +30,8 @@ unfolding readCall
 read-carries plan sheet bits =
     let o = readOutcome plan sheet bits in
     packed-carries (reportFields (o .verdict) (o .report)) (read-range plan sheet bits)
+
+pub sums-carries : promise.SumsCarries
+unfolding sumsCall
+sums-carries plan sheet first past sums =
+    packed-carries (verdictFields (sumRun plan sheet first past sums .verdict)) (sums-range plan sheet first past sums)

@@ -4,3 +4,4 @@ pub mod Reading
 pub mod Promise
 pub mod Answer
 pub mod House
+pub mod Sums

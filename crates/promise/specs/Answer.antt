@@ -5,6 +5,7 @@
 --   MakeCarries    making a plan: likewise
 --   WriteCarries   writing: likewise
 --   ReadCarries    reading: the number, the places and the reader's five numbers
+--   SumsCarries    asking for the sums of a run: the number and the places of its verdict, and five zeros
 use Prim.Native.Nat.{ℕ}
 use mathlib.Core.List.{List}
 use Rattle.answer.specs.Answer.{Carries}
@@ -13,7 +14,8 @@ use Rattle.maker.specs.declared.parameters.Parameters.{Parameters}
 use Rattle.maker.specs.Make.{make}
 use Rattle.writer.specs.Write.{write}
 use Rattle.reader.specs.Read.{readOutcome}
-use Rattle.sheet.specs.Calls.{verdictFields, reportFields, planAnswer, makeCall, writeCall, readCall}
+use Rattle.runsums.specs.RunSums.{sumRun}
+use Rattle.sheet.specs.Calls.{verdictFields, reportFields, planAnswer, makeCall, writeCall, readCall, sumsCall}
 
 abbrev pub PlanCarries : Type 0
 PlanCarries = (plan : List ℕ) → Carries (planAnswer plan) (verdictFields (planVerdict plan))
@@ -28,3 +30,7 @@ WriteCarries = (plan bits sheet : List ℕ)
 abbrev pub ReadCarries : Type 0
 ReadCarries = (plan sheet bits : List ℕ)
     → Carries (readCall plan sheet bits .answer) (reportFields (readOutcome plan sheet bits .verdict) (readOutcome plan sheet bits .report))
+
+abbrev pub SumsCarries : Type 0
+SumsCarries = (plan sheet : List ℕ) (first past : ℕ) (sums : List ℕ)
+    → Carries (sumsCall plan sheet first past sums .answer) (verdictFields (sumRun plan sheet first past sums .verdict))

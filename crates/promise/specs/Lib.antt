@@ -2,3 +2,4 @@
 pub mod Promise
 pub mod Answer
 pub mod House
+pub mod Sums

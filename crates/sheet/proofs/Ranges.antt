@@ -2,8 +2,9 @@
 --
 --   write-fits    number and places of writing
 --   read-fits     number and places of reading
+--   sums-fit      number and places of asking for the sums of a run; forms-fit, those of the checks that a sheet is of the right form
 --   report-fits   the reader's five numbers
---   plan-range, make-range, write-range, read-range   the fields of the answer of each call
+--   plan-range, make-range, write-range, read-range, sums-range   the fields of the answer of each call
 --   made-range, made-packed   the answer of either call that makes a plan
 --
 -- Assumes nothing.
@@ -26,8 +27,9 @@ use Rattle.plan.specs.Verdict.{refusal, _orElse_}
 use Rattle.plan.specs.Bytes.{codeOf}
 use Rattle.accept.specs.Verdict.{planVerdict}
 use Rattle.accept.proofs.Range.{SmallVerdict, accepted-fits, else-fits, if-fits, at-fits, plan-fits}
-use Rattle.buffers.specs.Buffers.{lengthVerdict, unusedVerdict, sheetLength, dataLength, sheetChecks, lengthChecks, writeChecks, readChecks}
-use Rattle.buffers.proofs.Passing.{bytes-most, size-most, length-zero}
+use Rattle.buffers.specs.Buffers.{lengthVerdict, unusedVerdict, sheetLength, dataLength, sumsLength}
+use Rattle.buffers.specs.Buffers.{sheetChecks, lengthChecks, writeChecks, readChecks, formChecks, sumsChecks}
+use Rattle.buffers.proofs.Passing.{bytes-most, size-most, sheet-zero, length-zero}
 use Rattle.mend.specs.declared.report.Report.{Report}
 use Rattle.mend.specs.Report.{reportAs}
 use Rattle.mend.specs.declared.found.Found.{Found}
@@ -40,6 +42,7 @@ use Rattle.maker.specs.declared.parameters.Parameters.{Parameters}
 use Rattle.maker.specs.Make.{Made, made, make}
 use Rattle.maker.proofs.Range.{make-fits}
 use Rattle.writer.specs.Write.{write}
+use Rattle.runsums.specs.RunSums.{sumRun}
 use Rattle.answer.specs.Answer.{InRange, packed}
 use Rattle.sheet.specs.Calls.{verdictFields, reportFields, makeReply, makeCall}
 
@@ -90,6 +93,17 @@ unfolding readChecks
 reads-fit plan sheet bits =
     after-lengths plan sheet bits (unusedVerdict (codeOf plan .n1) (codeOf plan .n2) sheet)
     (λ F. unused-fits (codeOf plan .n1) (codeOf plan .n2) sheet (sheet-bytes plan F))
+
+pub forms-fit : (plan sheet : List ℕ) → SmallVerdict (formChecks plan sheet)
+unfolding formChecks
+forms-fit plan sheet =
+    else-fits (sheetChecks plan sheet) (unusedVerdict (codeOf plan .n1) (codeOf plan .n2) sheet) (sheets-fit plan sheet)
+    (λ e. unused-fits (codeOf plan .n1) (codeOf plan .n2) sheet (sheet-bytes plan (sheet-zero plan sheet e .accepted .formed)))
+
+pub sums-fit : (plan sheet sums : List ℕ) → SmallVerdict (sumsChecks plan sheet sums)
+unfolding sumsChecks
+sums-fit plan sheet sums =
+    else-fits (formChecks plan sheet) (sumsLength sums) (forms-fit plan sheet) (λ _. length-fits 24 sums 8 (omega arith))
 
 found-fits : (r : Found) → SmallVerdict (foundVerdict r)
 found-fits (Burst top left x) = accepted-fits
@@ -175,6 +189,10 @@ module _ (g : Parameters) (plan : List ℕ) {v : Verdict} {s : List ℕ} (e : ma
 pub write-range : (plan bits sheet : List ℕ) → InRange (verdictFields (write plan bits sheet .verdict))
 unfolding write
 write-range plan bits sheet = fields-range (writeChecks plan bits sheet) (reportAs noReport) (write-fits plan bits sheet) none-fits
+
+pub sums-range : (plan sheet : List ℕ) (first past : ℕ) (sums : List ℕ) → InRange (verdictFields (sumRun plan sheet first past sums .verdict))
+unfolding sumRun
+sums-range plan sheet first past sums = fields-range (sumsChecks plan sheet sums) (reportAs noReport) (sums-fit plan sheet sums) none-fits
 
 pub read-range : (plan sheet bits : List ℕ)
     → InRange (reportFields (readOutcome plan sheet bits .verdict) (readOutcome plan sheet bits .report))

@@ -7,6 +7,7 @@
 --   MakeReply, makeCall     the answer of making a plan, packed, and every byte of the plan after it
 --   WriteReply, writeCall   the answer of writing, packed, and every byte of the sheet after it
 --   ReadReply, readCall     the answer of reading, packed, and every byte of the sheet and of the data buffer after it
+--   SumsReply, sumsCall     the answer of asking for the sums of a run of rows, packed, and every byte of their buffer after it
 use Prim.Native.Nat.{ℕ}
 use mathlib.Core.List.{List}
 use Rattle.answer.specs.Answer.{Fields, placesFields, packed}
@@ -17,6 +18,7 @@ use Rattle.maker.specs.declared.parameters.Parameters.{Parameters}
 use Rattle.maker.specs.Make.{make}
 use Rattle.writer.specs.Write.{write}
 use Rattle.reader.specs.Read.{readOutcome}
+use Rattle.runsums.specs.RunSums.{sumRun}
 
 abbrev pub verdictFields : Verdict → Fields
 verdictFields v = placesFields (v .number) (v .p) (v .q)
@@ -67,6 +69,15 @@ readCall plan sheet bits =
     let o = readOutcome plan sheet bits in
     record { answer = packed (reportFields (o .verdict) (o .report)); sheet = o .sheet; bits = o .bits }
 
+pub record SumsReply : Type 0 where
+  pub answer : ℕ
+  pub sums : List ℕ
+
+unfoldable pub sumsCall : (plan sheet : List ℕ) (first past : ℕ) (sums : List ℕ) → SumsReply
+sumsCall plan sheet first past sums =
+    let o = sumRun plan sheet first past sums in
+    record { answer = packed (verdictFields (o .verdict)); sums = o .sums }
+
 -- an answer with the buffers after it
 abbrev pub makeReply : ℕ → List ℕ → MakeReply
 makeReply a s = record { answer = a; plan = s }
@@ -76,3 +87,6 @@ writeReply a s = record { answer = a; sheet = s }
 
 abbrev pub readReply : ℕ → List ℕ → List ℕ → ReadReply
 readReply a s b = record { answer = a; sheet = s; bits = b }
+
+abbrev pub sumsReply : ℕ → List ℕ → SumsReply
+sumsReply a s = record { answer = a; sums = s }

@@ -2,7 +2,7 @@
 // A call that turns something back changes no byte of any buffer. The data buffer is called bits here.
 ghost use mathlib.Core.Path.{_≡_};
 ghost use Rattle.houseplan.specs.HousePlan.{houseParameters};
-ghost use Rattle.sheet.specs.Calls.{planAnswer, parameters, makeReply, makeCall, writeReply, writeCall, readReply, readCall};
+ghost use Rattle.sheet.specs.Calls.{planAnswer, parameters, makeReply, makeCall, writeReply, writeCall, readReply, readCall, sumsReply, sumsCall};
 use accept::test::test;
 use answer::Answer;
 use answer::pack;
@@ -11,6 +11,7 @@ use houseplan::make_house;
 use maker::making::make;
 use maker::parameters::Parameters;
 use reader::read::read;
+use runsums::sum_run;
 use writer::writing::write;
 
 // Tests a plan: the number and places of the first check of document 01 that fails, or 0.
@@ -88,4 +89,19 @@ pub extern "C" fn sheet_read(plan: &[u8], sheet: &mut [u8], bits: &mut [u8]) -> 
         height: r.height,
         width: r.width,
     })
+}
+
+// The two sums of the rows of a sheet from first up to but not including past: V, then H, in 8 bytes.
+#[no_mangle]
+pub extern "C" fn sheet_sums(
+    plan: &[u8],
+    sheet: &[u8],
+    first: u32,
+    past: u32,
+    sums: &mut [u8],
+) -> u64
+    ensures { λ r. ⌜ sumsReply r (now (sums .exit)) ≡ sumsCall (now (plan .entry)) (now (sheet .entry)) first past (now (sums .entry)) ⌝ }
+{
+    let summed = sum_run(plan, sheet, first as usize, past as usize, sums);
+    pack_places(summed.number, summed.p, summed.q)
 }

@@ -1,17 +1,25 @@
-//! The five calls, by the words of documents 01 and 02 (requests a, c and d) and with no eye to speed
+//! The six calls, by the words of documents 01 and 02 (requests a, c, d and e) and with no eye to speed
 //! beyond what full-size sheets ask for.
 
 mod accept;
 mod algebra;
+mod buffers;
 mod maker;
 mod mend;
+mod run;
 mod sheet;
 
 pub use accept::{accept, accept_by, strip_members, test_plan, window_entries};
 pub use algebra::{independent, solve, Span};
+pub use buffers::check_summing;
 pub use maker::{made_plan, power};
 pub use mend::{burst_by_search, burst_by_trial, smallest_rectangle};
+pub use run::{run_sums, Sums};
 pub use sheet::{data_of, syndrome, turn_over, unused_bits, write_sheet, Cell};
+
+use std::ops::Range;
+
+use buffers::{check_reading, check_writing};
 
 use crate::answer::Answer;
 use crate::given::{Given, HOUSE};
@@ -44,12 +52,8 @@ pub fn write(plan: &[u8], data: &[u8], sheet: &mut [u8]) -> Answer {
 
 /// `write` under a plan that is known to be accepted: checks 11 to 13.
 pub fn write_accepted(plan: &Plan, data: &[u8], sheet: &mut [u8]) -> Answer {
-    if let Some(refusal) = wrong_length(plan, sheet, data) {
+    if let Err(refusal) = check_writing(plan, data, sheet) {
         return refusal;
-    }
-    let spare = 8 * data.len() - plan.data_bits();
-    if spare > 0 && data[data.len() - 1] >> (8 - spare) != 0 {
-        return Answer::refusal(13, data.len() - 1, 0);
     }
     sheet.copy_from_slice(&write_sheet(plan, data));
     Answer::default()
@@ -65,13 +69,8 @@ pub fn read(plan: &[u8], sheet: &mut [u8], data: &mut [u8]) -> Answer {
 
 /// `read` under a plan that is known to be accepted: checks 11 to 14.
 pub fn read_accepted(plan: &Plan, sheet: &mut [u8], data: &mut [u8]) -> Answer {
-    if let Some(refusal) = wrong_length(plan, sheet, data) {
+    if let Err(refusal) = check_reading(plan, sheet, data) {
         return refusal;
-    }
-    let unused = unused_bits(plan);
-    let row_ends = (0..plan.n1).map(|row| (row + 1) * plan.row_len() - 1);
-    if let Some(byte) = row_ends.into_iter().find(|&byte| sheet[byte] & unused != 0) {
-        return Answer::refusal(13, byte, 0);
     }
     let Some(burst) = burst_by_search(plan, sheet) else {
         return Answer::refusal(14, 0, 0);
@@ -83,13 +82,21 @@ pub fn read_accepted(plan: &Plan, sheet: &mut [u8], data: &mut [u8]) -> Answer {
     smallest_rectangle(&burst)
 }
 
-/// Checks 11 and 12, in this order.
-fn wrong_length(plan: &Plan, sheet: &[u8], data: &[u8]) -> Option<Answer> {
-    if sheet.len() != plan.sheet_len() {
-        Some(Answer::refusal(11, 0, 0))
-    } else if data.len() != plan.data_len() {
-        Some(Answer::refusal(12, 0, 0))
-    } else {
-        None
+/// The sums of a run of rows. A refusal changes nothing.
+pub fn sums(plan: &[u8], sheet: &[u8], run: Range<u32>, sums: &mut [u8]) -> Answer {
+    match accept(plan) {
+        Ok(plan) => sums_accepted(&plan, sheet, run, sums),
+        Err(refusal) => refusal,
     }
+}
+
+/// `sums` under a plan that is known to be accepted: checks 11, 13 and 24.
+pub fn sums_accepted(plan: &Plan, sheet: &[u8], run: Range<u32>, sums: &mut [u8]) -> Answer {
+    if let Err(refusal) = check_summing(plan, sheet, sums) {
+        return refusal;
+    }
+    let (v, h) = run_sums(plan, sheet, run);
+    sums[..4].copy_from_slice(&v.to_le_bytes());
+    sums[4..].copy_from_slice(&h.to_le_bytes());
+    Answer::default()
 }

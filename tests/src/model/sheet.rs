@@ -7,7 +7,7 @@ use crate::plan::Plan;
 pub type Cell = (usize, usize);
 
 /// Is the cell dark?
-fn cell(plan: &Plan, sheet: &[u8], (i, j): Cell) -> bool {
+pub fn cell(plan: &Plan, sheet: &[u8], (i, j): Cell) -> bool {
     sheet[i * plan.row_len() + j / 8] >> (j % 8) & 1 == 1
 }
 

@@ -6,7 +6,9 @@ mod maker;
 mod plain;
 mod sheets;
 
-pub use sheets::{read_accepted, write_accepted};
+pub use sheets::{read_accepted, sum_accepted, write_accepted};
+
+use std::ops::Range;
 
 use crate::answer::{Answer, Places};
 use crate::given::Given;
@@ -37,6 +39,12 @@ pub fn plain_plan_make(given: &Given, plan: &mut [u8]) -> u64 {
 /// The same with one row of pairs for each table, which is enough for a table of powers.
 pub fn one_row_plan_make(given: &Given, plan: &mut [u8]) -> u64 {
     told(maker::make(given, plan, plain::first_row_of_windows, plain::first_row_of_strips))
+}
+
+/// The sums of a run in plain Rust: the plain plan test, the checks of the buffers, and the rows of the run.
+pub fn plain_sums(plan: &[u8], sheet: &[u8], run: Range<u32>, into: &mut [u8]) -> u64 {
+    let plan = accept_by(plan, plain::windows, plain::strips);
+    told(plan.and_then(|plan| sum_accepted(&plan, sheet, run, into)))
 }
 
 fn told<T>(outcome: Result<T, Answer>) -> u64 {

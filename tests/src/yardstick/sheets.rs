@@ -1,8 +1,10 @@
-//! Writing and reading beyond the plan test, in plain Rust: one pass over the cells, row by row,
+//! Writing, reading and summing beyond the plan test, in plain Rust: one pass over the cells, row by row,
 //! with the remainders counted along.
 
+use std::ops::Range;
+
 use crate::answer::Answer;
-use crate::model::{smallest_rectangle, solve, Cell};
+use crate::model::{check_summing, smallest_rectangle, solve, Cell, Sums};
 use crate::plan::Plan;
 
 /// Write under an accepted plan, with buffers of the right length and unused bits 0.
@@ -13,7 +15,7 @@ pub fn write_accepted(plan: &Plan, data: &[u8], sheet: &mut [u8]) {
         sheet[byte] |= (data[bit / 8] >> (bit % 8) & 1) << shift;
         bit += 1;
     });
-    let (v, h) = sums(plan, sheet);
+    let (v, h) = sums(plan, sheet, 0..plan.n1);
     let joint = u64::from(v) | u64::from(h) << plan.rv;
     let checks = plan.checks.iter().map(|&(i, j)| (usize::from(i), usize::from(j)));
     let entries = checks.clone().map(|(i, j)| plan.joint(i, j));
@@ -25,7 +27,7 @@ pub fn write_accepted(plan: &Plan, data: &[u8], sheet: &mut [u8]) {
 
 /// Read under an accepted plan, with buffers of the right length and unused bits 0.
 pub fn read_accepted(plan: &Plan, sheet: &mut [u8], data: &mut [u8]) -> Answer {
-    let Some(burst) = burst(plan, sums(plan, sheet)) else {
+    let Some(burst) = burst(plan, sums(plan, sheet, 0..plan.n1)) else {
         return Answer::refusal(14, 0, 0);
     };
     for &(i, j) in &burst {
@@ -38,6 +40,20 @@ pub fn read_accepted(plan: &Plan, sheet: &mut [u8], data: &mut [u8]) -> Answer {
         bit += 1;
     });
     smallest_rectangle(&burst)
+}
+
+/// Sum a run under an accepted plan: checks 11, 13 and 24, then the rows of the run alone.
+pub fn sum_accepted(
+    plan: &Plan,
+    sheet: &[u8],
+    run: Range<u32>,
+    into: &mut [u8],
+) -> Result<(), Answer> {
+    check_summing(plan, sheet, into)?;
+    let (v, h) = sums(plan, sheet, run.start as usize..run.end as usize);
+    into[..4].copy_from_slice(&v.to_le_bytes());
+    into[4..].copy_from_slice(&h.to_le_bytes());
+    Ok(())
 }
 
 /// Byte and bit of each cell that is not a check cell, in the order of the data.
@@ -70,10 +86,11 @@ fn each_other(
     }
 }
 
-/// The V sum and the H sum.
-fn sums(plan: &Plan, sheet: &[u8]) -> (u32, u32) {
+/// The V sum and the H sum of a run.
+fn sums(plan: &Plan, sheet: &[u8], run: Range<usize>) -> Sums {
     let (mut v_sum, mut h_sum) = (0, 0);
-    for (i, row) in sheet.chunks(plan.row_len()).enumerate() {
+    let rows = sheet.chunks(plan.row_len()).enumerate();
+    for (i, row) in rows.take(run.end).skip(run.start) {
         let v = &plan.v[i * plan.b2..(i + 1) * plan.b2];
         let h = plan.h[i % plan.b1..].iter().step_by(plan.b1);
         for ((j, &h), &v) in h.enumerate().zip(v.iter().cycle()) {
@@ -86,7 +103,7 @@ fn sums(plan: &Plan, sheet: &[u8]) -> (u32, u32) {
 }
 
 /// The burst that fits: a window's pattern from the V sum, then its place from the H sum.
-fn burst(plan: &Plan, (v_sum, h_sum): (u32, u32)) -> Option<Vec<Cell>> {
+fn burst(plan: &Plan, (v_sum, h_sum): Sums) -> Option<Vec<Cell>> {
     let (b1, b2) = (plan.b1, plan.b2);
     if v_sum == 0 {
         return (h_sum == 0).then(Vec::new);

@@ -10,6 +10,7 @@
 mod before;
 mod making;
 mod plan_test;
+mod runs;
 mod sheets;
 mod subject;
 mod timing;
@@ -24,6 +25,7 @@ fn main() {
     making::house();
     plan_test::plan_test();
     sheets::write_and_read();
+    runs::runs();
     #[cfg(feature = "before")]
     before::beside();
 }

@@ -1,0 +1,57 @@
+//! The checks of the buffers that are lent beside the plan, and for each call those that it makes, in
+//! order.
+
+use super::sheet::unused_bits;
+use crate::answer::Answer;
+use crate::plan::Plan;
+
+/// Writing: checks 11 to 13.
+pub fn check_writing(plan: &Plan, data: &[u8], sheet: &[u8]) -> Result<(), Answer> {
+    sheet_length(plan, sheet)?;
+    data_length(plan, data)?;
+    unused_of_data(plan, data)
+}
+
+/// Reading: checks 11 to 13.
+pub fn check_reading(plan: &Plan, sheet: &[u8], data: &[u8]) -> Result<(), Answer> {
+    sheet_length(plan, sheet)?;
+    data_length(plan, data)?;
+    unused_of_sheet(plan, sheet)
+}
+
+/// Summing a run: checks 11, 13 and 24.
+pub fn check_summing(plan: &Plan, sheet: &[u8], sums: &[u8]) -> Result<(), Answer> {
+    sheet_length(plan, sheet)?;
+    unused_of_sheet(plan, sheet)?;
+    sums_length(sums)
+}
+
+/// Check 11.
+fn sheet_length(plan: &Plan, sheet: &[u8]) -> Result<(), Answer> {
+    Answer::refuse_if(sheet.len() != plan.sheet_len(), 11)
+}
+
+/// Check 12.
+fn data_length(plan: &Plan, data: &[u8]) -> Result<(), Answer> {
+    Answer::refuse_if(data.len() != plan.data_len(), 12)
+}
+
+/// Check 13 of data of the right length. Only the last byte can have unused bits.
+fn unused_of_data(plan: &Plan, data: &[u8]) -> Result<(), Answer> {
+    let spare = 8 * data.len() - plan.data_bits();
+    let fails = spare > 0 && data[data.len() - 1] >> (8 - spare) != 0;
+    Answer::refuse_at(fails.then(|| (data.len() - 1, 0)), 13)
+}
+
+/// Check 13 of a sheet of the right length.
+fn unused_of_sheet(plan: &Plan, sheet: &[u8]) -> Result<(), Answer> {
+    let unused = unused_bits(plan);
+    let mut row_ends = (0..plan.n1).map(|row| (row + 1) * plan.row_len() - 1);
+    let byte = row_ends.find(|&byte| sheet[byte] & unused != 0);
+    Answer::refuse_at(byte.map(|byte| (byte, 0)), 13)
+}
+
+/// Check 24.
+fn sums_length(sums: &[u8]) -> Result<(), Answer> {
+    Answer::refuse_if(sums.len() != 8, 24)
+}
