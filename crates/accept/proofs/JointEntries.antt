@@ -24,7 +24,7 @@ use Rattle.gf2.proofs.Vectors.{taken-least, listed-in, listed-none, listed-leng
 use Rattle.gf2.proofs.Span.{listed-at}
 use Rattle.boxcode.specs.Code.{Code, Formed, rowWeight, columnWeight, jointWeight, checkJoint}
 use Rattle.boxcode.specs.Condition.{everyone}
-use Rattle.boxcode.proofs.Syndrome.{check-below}
+use Rattle.boxcode.proofs.Syndrome.{joint-below, check-below}
 use Rattle.accept.specs.Joints.{jointsOf, Joint}
 
 pub joint-word : (rv rh : ℕ) → rv ≤ 32 → rh ≤ 32 → 2 ^ (rv + rh) ≤ 2 ^ 64
@@ -34,11 +34,10 @@ pub shift-exact : (rv : ℕ) → rv ≤ 32 → 1 * 2 ^ rv % 2 ^ 64 ≡ 2 ^ rv
 shift-exact rv l = shl-exact 1 rv 64 (omega arith) (omega arith) ∙ one-mul (2 ^ rv)
 
 module _ (c : Code) (F : Formed c) where
-  pub joint-of : (k v w : ℕ) → k < c .rv + c .rh → v ≡ rowWeight c (c .checkRow k) (c .checkColumn k)
-      → w ≡ columnWeight c (c .checkRow k) (c .checkColumn k) → Joint c k (v + 2 ^ c .rv * w)
-  joint-of k v w l ev ew =
-      let e : v + 2 ^ c .rv * w ≡ checkJoint c k = rw (ev, ew) (unfold checkJoint jointWeight in refl) in
-      record { value = e; below = rw e (check-below c F k l) }
+  pub joint-of : (i j v w : ℕ) → i < c .n1 → j < c .n2 → v ≡ rowWeight c i j → w ≡ columnWeight c i j → Joint c i j (v + 2 ^ c .rv * w)
+  joint-of i j v w li lj ev ew =
+      let e : v + 2 ^ c .rv * w ≡ jointWeight c i j = rw (ev, ew) (unfold jointWeight in refl) in
+      record { value = e; below = rw e (joint-below c F i j li lj) }
 
   -- the words of a basis
   pub joints-below : Below 64 (jointsOf c)
@@ -56,7 +55,7 @@ module _ (c : Code) (F : Formed c) where
 pub joints-none : (c : Code) → listed 0 everyone (checkJoint c) ≡ []
 joints-none c = listed-none everyone (checkJoint c)
 
-pub joints-next : (c : Code) (words : List ℕ) (k x : ℕ) → k < length words → take k words ≡ listed k everyone (checkJoint c) → Joint c k x
+pub joints-next : (c : Code) (words : List ℕ) (k x : ℕ) → k < length words → take k words ≡ listed k everyone (checkJoint c) → x ≡ checkJoint c k
     → take (k + 1) (set words k x) ≡ listed (k + 1) everyone (checkJoint c)
 joints-next c words k x l e j =
-    rw (add-one k, take-suc-set words k x l, e, j .value) (sym (listed-in k everyone (checkJoint c) refl))
+    rw (add-one k, take-suc-set words k x l, e, j) (sym (listed-in k everyone (checkJoint c) refl))

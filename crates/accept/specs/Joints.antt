@@ -1,21 +1,21 @@
 -- The joint entries of the check cells, as the code gathers them.
 --
 --   jointsOf c      the joint entries of the check cells
---   Joint c k r     r is the joint entry of check cell k, and fits 64 bits
+--   Joint c i j r   r is the joint entry of cell (i, j), and has rv + rh bits
 --   Joints c words  the first rv + rh words are the joint entries
 use Prim.Native.Nat.{ℕ, _+_, _^_, _≤_, _<_}
 use mathlib.Core.Path.{_≡_}
 use mathlib.Core.List.{List}
 use lib.ListN.{length, take}
 use Rattle.gf2.specs.Vectors.{listed}
-use Rattle.boxcode.specs.Code.{Code, checkJoint}
+use Rattle.boxcode.specs.Code.{Code, jointWeight, checkJoint}
 use Rattle.boxcode.specs.Condition.{everyone}
 
 unfoldable pub jointsOf : Code → List ℕ
 jointsOf c = listed (c .rv + c .rh) everyone (checkJoint c)
 
-pub record Joint (c : Code) (k r : ℕ) : Type 0 where
-  pub value : r ≡ checkJoint c k
+pub record Joint (c : Code) (i j r : ℕ) : Type 0 where
+  pub value : r ≡ jointWeight c i j
   pub below : r < 2 ^ (c .rv + c .rh)
 
 pub record Joints (c : Code) (words : List ℕ) : Type 0 where

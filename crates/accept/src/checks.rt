@@ -15,16 +15,15 @@ use plan::header::Header;
 use plan::verdict::Verdict;
 use plan::verdict::refuse_if;
 
-// The joint entry of a check cell: its V entry, and its H entry above the rv bits of that.
-pub fn check_joint(plan: &[u8], h: Header, k: usize) -> u64
+// The joint entry of cell (i, j): its V entry, and its H entry above the rv bits of that.
+pub fn joint_entry(plan: &[u8], h: Header, i: usize, j: usize) -> u64
     requires { ⌜ Framed (now plan) h ⌝ }
     requires { ⌜ Formed (codeWith (now plan) h) ⌝ }
-    requires { ⌜ k < h .rv + h .rh ⌝ }
-    ensures { λ r. ⌜ Joint (codeWith (now (plan .entry)) h) k r ⌝ }
+    requires { ⌜ (i < h .n1) × (j < h .n2) ⌝ }
+    ensures { λ r. ⌜ Joint (codeWith (now (plan .entry)) h) i j r ⌝ }
 {
-    let cell = check_cell(plan, h, k);
-    let v = row_weight(plan, h, cell.row, cell.column);
-    let w = column_weight(plan, h, cell.row, cell.column);
+    let v = row_weight(plan, h, i, j);
+    let w = column_weight(plan, h, i, j);
     v + (1u64 << h.rv) * w
 }
 
@@ -38,7 +37,8 @@ pub fn check_joints(plan: &[u8], h: Header) -> [u64; 64]
     let count = h.rv + h.rh;
     let mut k = 0;
     while k < count {
-        joints[k] = check_joint(plan, h, k);
+        let cell = check_cell(plan, h, k);
+        joints[k] = joint_entry(plan, h, cell.row, cell.column);
         k += 1;
     }
     joints

@@ -25,10 +25,17 @@ add-count c = omega arith
 loop-holds : tie.Need-loop-holds Inv-loop μ-loop
 loop-holds c = (omega arith, refl, sym (joints-none (codeWith (c .before .before .args .plan .now) (c .before .before .args .h))))
 
-check-joint-requires : tie.Need-check-joint-requires Inv-loop μ-loop
-check-joint-requires c κs =
+check-cell-requires : tie.Need-check-cell-requires Inv-loop μ-loop
+check-cell-requires c κs =
     let p = c .before .before .before .before .pre in
-    (p .0, (p .1, c .loop-test .taken))
+    (p .0, c .loop-test .taken)
+
+joint-entry-requires : tie.Need-joint-entry-requires Inv-loop μ-loop
+joint-entry-requires c κs =
+    let l = c .before .before in
+    let p = l .before .before .before .pre in
+    let e = c .check-cell .ensures .value in
+    (p .0, (p .1, (rw e (p .1 .check-rows _ (c .before .loop-test .taken)), rw e (p .1 .check-columns _ (c .before .loop-test .taken)))))
 
 mul-joints : tie.Need-mul-joints Inv-loop μ-loop
 mul-joints c = omega arith
@@ -43,12 +50,15 @@ loop-less : tie.Need-loop-less Inv-loop μ-loop
 loop-less c = omega arith
 
 loop-again : tie.Need-loop-again Inv-loop μ-loop
+unfolding checkJoint
 loop-again c =
-    let l = c .before .before .loop in
-    let s = c .before .before .before .before .before .args in (
+    let l = c .before .before .before .loop in
+    let s = c .before .before .before .before .before .before .args in
+    let e : c .joint-entry .result ≡ checkJoint (codeWith (s .plan .now) (s .h)) (l .k) =
+    rw (c .before .check-cell .ensures .value) at (c .joint-entry .ensures .value) in (
       omega arith,
-      length-set (l .joints) (l .k) (c .check-joint .result) ∙ l .inv .1,
-      joints-next (codeWith (s .plan .now) (s .h)) (l .joints) (l .k) (c .check-joint .result) (omega arith) (l .inv .2) (c .check-joint .ensures),
+      length-set (l .joints) (l .k) (c .joint-entry .result) ∙ l .inv .1,
+      joints-next (codeWith (s .plan .now) (s .h)) (l .joints) (l .k) (c .joint-entry .result) (omega arith) (l .inv .2) e,
     )
 
 returns : tie.Need-returns Inv-loop μ-loop
@@ -66,7 +76,8 @@ check-joints-spec =
     μ-loop
     add-count
     loop-holds
-    check-joint-requires
+    check-cell-requires
+    joint-entry-requires
     mul-joints
     array-write-joints
     add-k
