@@ -7,6 +7,7 @@
 --   at-most-one        at most one burst, as a set of cells, fits a sheet
 --   change-is          the cells that the reader turns over are those of the burst that fits
 --   written-belongs, written-only   the written sheet belongs, and is the only one that does and holds the data
+--   written-same       equal data, equal written sheets
 --
 -- Assumes nothing.
 use mathlib.Core.Path.{_≡_}
@@ -39,3 +40,6 @@ module _ (c : Code) (F : Formed c) (K : Conditions c) where
 
   pub written-only : (x : Bits) (s : Cells) → Belongs c s → ((d : ℕ) → d < dataSize c → dataOf c s d ≡ x d) → SameCells c s (written c x)
   written-only = Written.written-only c F (writable c F K)
+
+  pub written-same : (x x' : Bits) → ((d : ℕ) → d < dataSize c → x d ≡ x' d) → SameCells c (written c x) (written c x')
+  written-same = Written.written-same c F (writable c F K)

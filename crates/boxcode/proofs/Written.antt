@@ -5,10 +5,12 @@
 --   jointSum, checks-sum   the joint sum of a set of cells, and of a set of check cells
 --   belongs-only     two sheets that belong and hold the same data are the same cells
 --   written-data     the written sheet holds its data
---   fill-belongs     a filled sheet belongs where its check cells sum to what its data cells sum to
+--   balanced         a sheet belongs if it is another with check cells turned over that sum to the joint sum of that
+--   fill-belongs     so does a filled sheet, where its check cells sum to what its data cells sum to
 --   Writable         writing is possible: the written sheet belongs, and a belonging sheet is known by its data
 --   writable         a code that meets the conditions is writable
 --   written-only     the written sheet is the only sheet that belongs and holds its data
+--   written-same     equal data, equal written sheets
 --
 -- Assumes nothing.
 use mathlib.Core.Path.{_≡_, refl, sym, ap, ap₂, _∙_}
@@ -105,25 +107,24 @@ module _ (c : Code) (F : Formed c) where
   unfolding written
   written-data x = data-fill c F x (least (2 ^ (c .rv + c .rh)) (λ y. belongs c (fill c x y)))
 
-  -- digits in the check cells whose joint entries sum to the joint sum of the data cells make both sums 0
-  pub fill-belongs : (x : Bits) (y : ℕ) → chosenSum (c .rv + c .rh) (bit y) (checkJoint c) ≡ jointSum c (fill c x 0) → Belongs c (fill c x y)
-  fill-belongs x y made = joint-belongs c F (fill c x y) none
-    where
-      v : ℕ
-      v = jointSum c (fill c x 0)
+  -- the data of s, and those check cells turned over whose joint entries sum to the joint sum of s: both sums are 0
+  pub balanced : (s t : Cells) (y : ℕ) → SameData c t s → ((k : ℕ) → k < c .rv + c .rh → xor (checkCell c t k) (checkCell c s k) ≡ bit y k)
+      → chosenSum (c .rv + c .rh) (bit y) (checkJoint c) ≡ jointSum c s → Belongs c t
+  balanced s t y same turned made =
+      joint-belongs c F t
+      (sym (add-back (jointSum c t) (jointSum c s))
+      ∙ ap (λ (z : ℕ). z ⊕ jointSum c s)
+      (apart-sum t s same
+      ∙ sum-equal (c .rv + c .rh) (λ k. pick (xor (checkCell c t k) (checkCell c s k)) (checkJoint c k)) (λ k. pick (bit y k) (checkJoint c k))
+      (λ k l. ap (λ (b : Bool). pick b (checkJoint c k)) (turned k l))
+      ∙ made)
+      ∙ xor-self (jointSum c s))
 
-      turned : (k : ℕ) → k < c .rv + c .rh → xor (checkCell c (fill c x y) k) (checkCell c (fill c x 0) k) ≡ bit y k
-      turned k l = ap₂ xor (fill-check c F x y k l) (fill-check c F x 0 k l ∙ bit-none k) ∙ truth.xor-none (bit y k)
-
-      none : jointSum c (fill c x y) ≡ 0
-      none =
-          sym (add-back (jointSum c (fill c x y)) v)
-          ∙ ap (λ (z : ℕ). z ⊕ v)
-          (apart-sum (fill c x y) (fill c x 0) (λ d l. data-fill c F x y d l ∙ sym (data-fill c F x 0 d l))
-          ∙ sum-equal (c .rv + c .rh) (λ k. pick (xor (checkCell c (fill c x y) k) (checkCell c (fill c x 0) k)) (checkJoint c k))
-          (λ k. pick (bit y k) (checkJoint c k)) (λ k l. ap (λ (b : Bool). pick b (checkJoint c k)) (turned k l))
-          ∙ made)
-          ∙ xor-self v
+  -- so of a sheet filled with such digits
+  fill-belongs : (x : Bits) (y : ℕ) → chosenSum (c .rv + c .rh) (bit y) (checkJoint c) ≡ jointSum c (fill c x 0) → Belongs c (fill c x y)
+  fill-belongs x y =
+      balanced (fill c x 0) (fill c x y) y (λ d l. data-fill c F x y d l ∙ sym (data-fill c F x 0 d l))
+      (λ k l. ap₂ xor (fill-check c F x y k l) (fill-check c F x 0 k l ∙ bit-none k) ∙ truth.xor-none (bit y k))
 
   -- some do
   written-exists : Conditions c → (x : Bits) → (y : ℕ) × (y < 2 ^ (c .rv + c .rh)) × Belongs c (fill c x y)
@@ -167,3 +168,6 @@ writable c F K = record { belongs = written-belongs c F K; only = belongs-only c
 pub written-only : (c : Code) → Formed c → Writable c → (x : Bits) (s : Cells) → Belongs c s → ((d : ℕ) → d < dataSize c → dataOf c s d ≡ x d)
     → SameCells c s (written c x)
 written-only c F W x s b same = W .only s (written c x) b (W .belongs x) (λ d l. same d l ∙ sym (written-data c F x d l))
+
+pub written-same : (c : Code) → Formed c → Writable c → (x x' : Bits) → ((d : ℕ) → d < dataSize c → x d ≡ x' d) → SameCells c (written c x) (written c x')
+written-same c F W x x' same = written-only c F W x' (written c x) (W .belongs x) (λ d l. written-data c F x d l ∙ same d l)

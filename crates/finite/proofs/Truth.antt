@@ -8,7 +8,7 @@
 --   both, either                    a true conjunction and a true disjunction taken apart
 --   true-or-false                   every value is one or the other, with the equation
 --   clash, never                    no value is both
---   xor-equal, xor-none, xor-light, xor-self, xor-back   differences of truth values
+--   xor-equal, xor-none, xor-light, xor-self, xor-back, xor-comm, xor-assoc   differences of truth values
 --   both-equal, equal-both                    two equations as one test
 --   within-from, within-to, in-within         the numbers of a run
 --
@@ -119,6 +119,24 @@ xor-back true true = refl
 xor-back true false = refl
 xor-back false true = refl
 xor-back false false = refl
+
+pub xor-comm : (a b : Bool) → xor a b ≡ xor b a
+unfolding xor
+xor-comm true true = refl
+xor-comm true false = refl
+xor-comm false true = refl
+xor-comm false false = refl
+
+pub xor-assoc : (a b c : Bool) → xor (xor a b) c ≡ xor a (xor b c)
+unfolding xor
+xor-assoc true true true = refl
+xor-assoc true true false = refl
+xor-assoc true false true = refl
+xor-assoc true false false = refl
+xor-assoc false true true = refl
+xor-assoc false true false = refl
+xor-assoc false false true = refl
+xor-assoc false false false = refl
 
 pub xor-cases {ℓ} : {A : Type ℓ} (a b : Bool) → xor a b ≡ true → (a ≡ true → A) → (b ≡ true → A) → A
 unfolding xor

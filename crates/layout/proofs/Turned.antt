@@ -2,6 +2,7 @@
 --
 --   turned-form           the right form is kept
 --   turned-cell           the cells are the old ones, but the one that was turned
+--   turned-if-form, turned-if-cell   the same where the cell is turned only if t holds
 --   turned-bytes          so the bytes of cells p become those of p with the cell turned
 --   turned-if-bytes       the same where the cell is turned only if b holds
 --   turned-if-length      the number of bytes is kept
@@ -85,6 +86,15 @@ module _ (n1 n2 : ℕ) (s : List ℕ) (f : RightForm n1 n2 s) (i j : ℕ) (li : 
           ap (λ (y : ℕ). bit y (b % 8)) (getD-set-other s (byteOf n2 i j) (byteOf n2 a b) x 0 e)
           ∙ sym (xor-none (bit (getD s (byteOf n2 a b) 0) (b % 8)))
           ∙ ap (xor (bit (getD s (byteOf n2 a b) 0) (b % 8))) (sym (other e))
+
+  -- the same of a cell that is turned over if t holds
+  pub turned-if-form : (t : Bool) → RightForm n1 n2 (turnedIf t n2 s i j)
+  turned-if-form true = turned-form
+  turned-if-form false = f
+
+  pub turned-if-cell : (t : Bool) (a b : ℕ) → a < n1 → b < n2 → cellOf n2 (turnedIf t n2 s i j) a b ≡ xor (cellOf n2 s a b) (t && (eqb i a && eqb j b))
+  turned-if-cell true a b la lb = turned-cell a b la lb
+  turned-if-cell false a b la lb = sym (xor-none (cellOf n2 s a b))
 
 pub turned-bytes : (n1 n2 : ℕ) (p q : ℕ → ℕ → Bool) (i j : ℕ) → i < n1 → j < n2
     → ((a b : ℕ) → a < n1 → b < n2 → xor (p a b) (eqb i a && eqb j b) ≡ q a b) → turned n2 (bytesOf n1 n2 p) i j ≡ bytesOf n1 n2 q

@@ -1,4 +1,4 @@
 -- The laws of the definitions of specs/.
 pub mod Solved
-pub mod Filled
+pub mod Balanced
 pub mod Outcomes

@@ -7,9 +7,8 @@ ghost use Rattle.plan.specs.Bytes.{codeWith};
 ghost use Rattle.plan.specs.Table.{Unpacked};
 ghost use Rattle.plan.specs.Accepted.{AcceptedWith};
 ghost use Rattle.writer.specs.Write.{dataBits, wrote, write};
-use crate::solving::check_digits;
+use crate::balancing::balance;
 use crate::solving::joint_sum;
-use crate::turning::turn_checks;
 use buffers::call::write_checks;
 use payload::transfer::put;
 use plan::entry::header_of;
@@ -26,9 +25,8 @@ fn write_sheet(plan: &[u8], h: Header, columns: &[u64], bits: &[u8], sheet: &mut
         now (sheet .exit) ≡ bytesOf (h .n1) (h .n2) (written c (dataBits (dataSize c) (now (bits .entry))))) ⌝ }
 {
     put(plan, h, bits, sheet);
-    let target = joint_sum(sheet, plan, h, columns);
-    let y = check_digits(plan, h, target);
-    turn_checks(plan, h, y, sheet);
+    let sum = joint_sum(sheet, plan, h, columns);
+    balance(plan, h, sum, sheet);
 }
 
 // Writes the data under the plan, or turns back with the sheet as it was.

@@ -5,7 +5,7 @@ use native.Mathlib.Omega.{arith}
 use lib.ListN.{length}
 use Rattle.plan.specs.Bytes.{codeWith}
 use Rattle.writer.specs.Steps.{turnedTo}
-use Rattle.writer.proofs.Filled.{turned-none, turned-next, turned-size}
+use Rattle.writer.proofs.Balanced.{turned-none, turned-next, turned-size}
 use Rattle.writer.proofs.turning.turn_checks.Statement.{statement}
 use Rattle.writer.proofs.turning.turn_checks.Tie as tie
 
