@@ -10,8 +10,9 @@
 --   next-ahead            it does not come before t
 --   next-kept, next-free  up to it no check cell is passed, and none stands
 --   next-left, next-check, next-passed   where it is on the sheet: the list has it, it is one, and one more is passed past it
---   UpTo c i q            the first q check cells stand in the rows up to and with row i
+--   UpTo c i q            the first q check cells stand before row i
 --   up-to-first, up-to-next, up-to-last   such a number, one more, and all of them
+--   checks-rise           the check cells before a row are no more than those before the next
 --
 -- Assumes nothing.
 use mathlib.Core.Path.{_≡_, refl, sym, ap, _∙_}
@@ -24,7 +25,7 @@ use native.Mathlib.Omega.{arith}
 use borrow.Author.Tests.{lt-ltb, le-ltb}
 use Rattle.finite.specs.Search.{countBelow}
 use Rattle.finite.proofs.Truth.{clash, not-true}
-use Rattle.finite.proofs.Count.{count-not}
+use Rattle.finite.proofs.Count.{count-not, count-split}
 use Rattle.boxcode.specs.Code.{Code, Formed, cellNumber}
 use Rattle.boxcode.specs.Check.{checkNumber, checkAt}
 use Rattle.boxcode.proofs.Check.{sheet-cells, check-rise, check-here, check-found}
@@ -55,6 +56,10 @@ ends-are c row check past ec ep =
 
 pub checks-most : (c : Code) (t check : ℕ) → check ≡ checksBefore c t → check ≤ t
 checks-most c t check e = omega (arith, both-before c t)
+
+pub checks-rise : (c : Code) (row check : ℕ) → check ≡ checksBefore c (row * c .n2) → check ≤ checksBefore c ((row + 1) * c .n2)
+unfolding checksBefore
+checks-rise c row check e = rw (e, rows-next row (c .n2), count-split (row * c .n2) (c .n2) (checkAt c)) (omega arith)
 
 pub none-before : (c : Code) → 0 ≡ checksBefore c (0 * c .n2)
 unfolding checksBefore countBelow
@@ -186,40 +191,33 @@ module _ (c : Code) (F : Formed c) where
 
 -- ---- row by row
 
--- the first q check cells stand in rows up to and with this one
+-- the first q check cells stand before this row
 pub record UpTo (c : Code) (row q : ℕ) : Type 0 where
   pub most : q ≤ c .rv + c .rh
-  pub before : (k : ℕ) → k < q → checkNumber c k < (row + 1) * c .n2
+  pub before : (k : ℕ) → k < q → checkNumber c k < row * c .n2
 
 module _ (c : Code) (F : Formed c) (row q : ℕ) where
-  pub up-to-first : q ≡ checksBefore c (row * c .n2) → UpTo c row q
-  up-to-first e =
+  pub up-to-first : q ≤ checksBefore c (row * c .n2) → UpTo c row q
+  up-to-first l =
       let P = passed c F (row * c .n2) in
-      let n = rows-next row (c .n2) in
-      record {
-        most = omega (arith, P .most);
-        before = λ k l. let b : checkNumber c k < row * c .n2 = P .before k (omega arith) in omega arith;
-      }
+      record { most = omega (arith, P .most); before = λ k lk. P .before k (omega arith) }
 
-  pub up-to-next : UpTo c row q → q < c .rv + c .rh → c .checkRow q ≤ row → UpTo c row (q + 1)
+  pub up-to-next : UpTo c row q → q < c .rv + c .rh → c .checkRow q < row → UpTo c row (q + 1)
   unfolding checkNumber cellNumber
   up-to-next U l h = record { most = omega arith; before = λ k lk. go k lk (ℕ-discrete k q) }
     where
-      here : checkNumber c q < (row + 1) * c .n2
+      here : checkNumber c q < row * c .n2
       here =
-          let m : c .checkRow q * c .n2 ≤ row * c .n2 = mul-le-mul-right (c .n2) h in
-          let n = rows-next row (c .n2) in
+          let m : (c .checkRow q + 1) * c .n2 ≤ row * c .n2 = mul-le-mul-right (c .n2) (omega arith) in
+          let n = rows-next (c .checkRow q) (c .n2) in
           omega (arith, F .check-columns q l)
 
-      go : (k : ℕ) → k < q + 1 → Dec (k ≡ q) → checkNumber c k < (row + 1) * c .n2
+      go : (k : ℕ) → k < q + 1 → Dec (k ≡ q) → checkNumber c k < row * c .n2
       go k lk (yes e) = rw e here
       go k lk (no e) = U .before k (omega arith)
 
-  pub up-to-last : UpTo c row q → (q < c .rv + c .rh → row < c .checkRow q) → q ≡ checksBefore c ((row + 1) * c .n2)
+  pub up-to-last : UpTo c row q → (q < c .rv + c .rh → row ≤ c .checkRow q) → q ≡ checksBefore c (row * c .n2)
   unfolding checkNumber cellNumber
   up-to-last U after =
-      passed-only c F ((row + 1) * c .n2) q (U .most) (U .before)
-      (λ l.
-      let h : row < c .checkRow q = after l in
-      let m : (row + 1) * c .n2 ≤ c .checkRow q * c .n2 = mul-le-mul-right (c .n2) (omega arith) in
-      omega arith)
+      passed-only c F (row * c .n2) q (U .most) (U .before)
+      (λ l. let m : row * c .n2 ≤ c .checkRow q * c .n2 = mul-le-mul-right (c .n2) (after l) in omega arith)

@@ -35,16 +35,16 @@ fn next_check(plan: &[u8], h: Header, q: usize) -> usize
     cell.row * h.n2 + cell.column
 }
 
-// The check cells of the rows up to and with a row, from those of the rows before it.
-fn checks_past(plan: &[u8], h: Header, row: usize, check: usize) -> usize
+// The check cells before a row, where so many of them are known.
+pub fn checks_before(plan: &[u8], h: Header, row: usize, known: usize) -> usize
     requires { ⌜ Framed (now plan) h ⌝ }
     requires { ⌜ Formed (codeWith (now plan) h) ⌝ }
-    requires { ⌜ check ≡ checksBefore (codeWith (now plan) h) (row * h .n2) ⌝ }
-    ensures { λ r. ⌜ r ≡ checksBefore (codeWith (now (plan .entry)) h) ((row + 1) * h .n2) ⌝ }
+    requires { ⌜ known ≤ checksBefore (codeWith (now plan) h) (row * h .n2) ⌝ }
+    ensures { λ r. ⌜ r ≡ checksBefore (codeWith (now (plan .entry)) h) (row * h .n2) ⌝ }
 {
-    let mut q = check;
+    let mut q = known;
     while q < h.rv + h.rh {
-        if row < check_cell(plan, h, q).row {
+        if row <= check_cell(plan, h, q).row {
             return q;
         }
         q += 1;
@@ -60,8 +60,9 @@ fn row_ends(plan: &[u8], h: Header, row: usize, check: usize) -> usize
     requires { ⌜ check ≡ checksBefore (codeWith (now plan) h) (row * h .n2) ⌝ }
     ensures { λ r. ⌜ r ≡ rowEnds (codeWith (now (plan .entry)) h) row ⌝ }
 {
-    let past = checks_past(plan, h, row, check);
-    (row * h.n2 - check) + ((row + 1) * h.n2 - past)
+    let next = row + 1;
+    let past = checks_before(plan, h, next, check);
+    (row * h.n2 - check) + (next * h.n2 - past)
 }
 
 // At the first cell.

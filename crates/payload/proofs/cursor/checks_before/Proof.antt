@@ -1,18 +1,18 @@
--- `payload::cursor::checks_past` meets its contract. The invariant: the first q check cells stand in the rows up to this one. Assumes nothing.
+-- `payload::cursor::checks_before` meets its contract. The invariant: the first q check cells stand before the row. Assumes nothing.
 use mathlib.Core.Path.{ap}
 use Prim.Native.Nat.{_+_, _-_}
 use native.Mathlib.Omega.{arith}
 use Rattle.plan.specs.Bytes.{codeWith}
 use Rattle.payload.proofs.Before.{UpTo, up-to-first, up-to-next, up-to-last}
 use borrow.Author.Needs.{needs}
-use Rattle.payload.proofs.cursor.checks_past.Statement.{statement}
-use Rattle.payload.proofs.cursor.checks_past.Tie as tie
+use Rattle.payload.proofs.cursor.checks_before.Statement.{statement}
+use Rattle.payload.proofs.cursor.checks_before.Tie as tie
 
 abbrev Inv-loop : tie.InvT-loop
-Inv-loop plan h row check q₀ q = UpTo (codeWith plan h) row q
+Inv-loop plan h row known q₀ q = UpTo (codeWith plan h) row q
 
 abbrev μ-loop : tie.MeasureT-loop
-μ-loop plan h row check q₀ q = h .rv + h .rh - q
+μ-loop plan h row known q₀ q = h .rv + h .rh - q
 
 loop-holds : tie.Need-loop-holds Inv-loop μ-loop
 loop-holds c = let pre = c .before .pre in up-to-first _ (pre .1 .0) _ _ (pre .1 .1)
@@ -46,8 +46,8 @@ returns-2 c =
     let w = c .before .before in
     up-to-last _ (w .before .before .pre .1 .0) _ _ (w .loop .inv) (λ l. absurd (omega arith))
 
-pub checks-past-spec : {M : Type 1} → statement M
-checks-past-spec =
+pub checks-before-spec : {M : Type 1} → statement M
+checks-before-spec =
     tie.close
     (tie.spec
     Inv-loop
