@@ -3,6 +3,7 @@
 
 use std::ops::Range;
 
+use crate::answer::Answer;
 use crate::model::Sums;
 use crate::plan::{field, set_header_field, Plan};
 
@@ -86,6 +87,21 @@ pub fn plan_cases() -> Vec<PlanCase> {
         cases.push((bytes, (number, 0, 0)));
     }
     cases
+}
+
+/// A plan for each of the numbers 0 to 10. The one that is accepted is S.
+pub fn plan_for_each_number() -> Vec<(Vec<u8>, Answer)> {
+    let s = plan_s().encode();
+    let too_large = Plan { v: vec![1, 2, 4], ..plan_s() };
+    let out_of_order = Plan { checks: vec![(0, 0), (0, 2), (0, 1), (1, 0)], ..plan_s() };
+    let mut plans = vec![
+        (s[..19].to_vec(), (1, 0, 0)),
+        (too_large.encode(), (6, 0, 2)),
+        (out_of_order.encode(), (7, 2, 0)),
+    ];
+    plans.extend(plan_cases().into_iter().filter(|(bytes, _)| *bytes != plan_t().encode()));
+    let told = |(number, p, q): (u64, u64, u64)| Answer::refusal(number, p as usize, q as usize);
+    plans.into_iter().map(|(bytes, places)| (bytes, told(places))).collect()
 }
 
 /// A plan, data, and the sheet that is written.

@@ -5,13 +5,12 @@
 #![allow(clippy::reversed_empty_ranges)]
 
 use sheet_tests::answer::Answer;
-use sheet_tests::cases::{plan_cases, plan_s, plan_t, plan_two_rows, run_cases};
+use sheet_tests::cases::{plan_for_each_number, plan_s, plan_t, plan_two_rows, run_cases};
 use sheet_tests::compared::{house_by_call, Harness};
 use sheet_tests::damage::{alter_length, damaged, set_unused_of_sheet};
 use sheet_tests::ffi::{sums, sums_by_registers};
 use sheet_tests::make::{accepted, burst_sizes, wide_3x3, CellOrder};
 use sheet_tests::model;
-use sheet_tests::plan::Plan;
 use sheet_tests::rng::Rng;
 use sheet_tests::runs::{random_run, whole};
 use sheet_tests::scans::{random_sheet, turned};
@@ -103,21 +102,6 @@ fn every_number() {
     tally.require("sheet_sums", &[(0..=0, 1000), (1..=11, 100), (13..=13, 100), (24..=24, 100)]);
     let others = [12].into_iter().chain(14..24).chain(25..32);
     assert!(others.into_iter().all(|number| tally.met(number) == 0));
-}
-
-/// A plan for each of the numbers 0 to 10. The one that is accepted is S.
-fn plan_for_each_number() -> Vec<(Vec<u8>, Answer)> {
-    let s = plan_s().encode();
-    let too_large = Plan { v: vec![1, 2, 4], ..plan_s() };
-    let out_of_order = Plan { checks: vec![(0, 0), (0, 2), (0, 1), (1, 0)], ..plan_s() };
-    let mut plans = vec![
-        (s[..19].to_vec(), (1, 0, 0)),
-        (too_large.encode(), (6, 0, 2)),
-        (out_of_order.encode(), (7, 2, 0)),
-    ];
-    plans.extend(plan_cases().into_iter().filter(|(bytes, _)| *bytes != plan_t().encode()));
-    let told = |(number, p, q): (u64, u64, u64)| Answer::refusal(number, p as usize, q as usize);
-    plans.into_iter().map(|(bytes, places)| (bytes, told(places))).collect()
 }
 
 /// The first check that fails is told, whatever else is wrong: the plan's number before all others, then

@@ -15,14 +15,23 @@ pub fn write_accepted(plan: &Plan, data: &[u8], sheet: &mut [u8]) {
         sheet[byte] |= (data[bit / 8] >> (bit % 8) & 1) << shift;
         bit += 1;
     });
+    for (i, j) in checks_with(plan, joint_sum(plan, sheet)) {
+        sheet[i * plan.row_len() + j / 8] |= 1 << (j % 8);
+    }
+}
+
+/// The two sums of a sheet as one number, V + 2^rv × H.
+pub(super) fn joint_sum(plan: &Plan, sheet: &[u8]) -> u64 {
     let (v, h) = sums(plan, sheet, 0..plan.n1);
-    let joint = u64::from(v) | u64::from(h) << plan.rv;
+    u64::from(v) | u64::from(h) << plan.rv
+}
+
+/// The check cells whose joint entries come to this sum.
+pub(super) fn checks_with(plan: &Plan, sum: u64) -> impl Iterator<Item = Cell> + '_ {
     let checks = plan.checks.iter().map(|&(i, j)| (usize::from(i), usize::from(j)));
     let entries = checks.clone().map(|(i, j)| plan.joint(i, j));
-    let dark = solve(entries, joint).expect("the check cells of an accepted plan span");
-    for (index, (i, j)) in checks.enumerate() {
-        sheet[i * plan.row_len() + j / 8] |= (dark >> index & 1) as u8 * (1 << (j % 8));
-    }
+    let taken = solve(entries, sum).expect("the check cells of an accepted plan span");
+    checks.enumerate().filter(move |(index, _)| taken >> index & 1 == 1).map(|(_, cell)| cell)
 }
 
 /// Read under an accepted plan, with buffers of the right length and unused bits 0.

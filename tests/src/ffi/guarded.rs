@@ -1,0 +1,130 @@
+//! The calls on guarded buffers.
+
+use std::ops::Range;
+
+use super::{house_plan, plan_make, sums, Archive, SHEET};
+use crate::answer::Answer;
+use crate::given::Given;
+use crate::rng::Rng;
+
+/// The calls on guarded buffers: each buffer lies amid random bytes at a random alignment, and
+/// after the call no byte may have changed but those that the call may write. An empty buffer is
+/// handed over as null in about half of the calls.
+pub struct Library {
+    rng: Rng,
+}
+
+impl Library {
+    /// The seed is that of the guard bytes.
+    pub fn new(seed: u64) -> Library {
+        Library { rng: Rng::new(seed) }
+    }
+
+    fn archive(&mut self) -> Archive {
+        if self.rng.one_in(2) {
+            SHEET.with_null()
+        } else {
+            SHEET
+        }
+    }
+
+    pub fn plan_make(&mut self, given: &Given, plan: &mut [u8]) -> u64 {
+        self.made(plan, |target, null| plan_make(given, target, null))
+    }
+
+    pub fn house_plan(&mut self, plan: &mut [u8]) -> u64 {
+        self.made(plan, house_plan)
+    }
+
+    /// A call that makes a plan and has no other buffer.
+    fn made(&mut self, plan: &mut [u8], call: impl FnOnce(&mut [u8], bool) -> u64) -> u64 {
+        let mut target = Guarded::new("plan", plan, &mut self.rng);
+        let null = self.rng.one_in(2);
+        let answer = call(target.content_mut(), null);
+        target.hand_back(answer, plan);
+        answer
+    }
+
+    pub fn plan_test(&mut self, plan: &[u8]) -> u64 {
+        let plan = Guarded::new("plan", plan, &mut self.rng);
+        let answer = self.archive().plan_test(plan.content());
+        plan.assert_unchanged();
+        answer
+    }
+
+    pub fn write(&mut self, plan: &[u8], data: &[u8], sheet: &mut [u8]) -> u64 {
+        let plan = Guarded::new("plan", plan, &mut self.rng);
+        let data = Guarded::new("data", data, &mut self.rng);
+        let mut target = Guarded::new("sheet", sheet, &mut self.rng);
+        let answer = self.archive().write(plan.content(), data.content(), target.content_mut());
+        plan.assert_unchanged();
+        data.assert_unchanged();
+        target.hand_back(answer, sheet);
+        answer
+    }
+
+    pub fn read(&mut self, plan: &[u8], sheet: &mut [u8], data: &mut [u8]) -> u64 {
+        let plan = Guarded::new("plan", plan, &mut self.rng);
+        let mut scan = Guarded::new("sheet", sheet, &mut self.rng);
+        let mut target = Guarded::new("data", data, &mut self.rng);
+        let answer = self.archive().read(plan.content(), scan.content_mut(), target.content_mut());
+        plan.assert_unchanged();
+        scan.hand_back(answer, sheet);
+        target.hand_back(answer, data);
+        answer
+    }
+
+    pub fn sums(&mut self, plan: &[u8], sheet: &[u8], run: Range<u32>, into: &mut [u8]) -> u64 {
+        let plan = Guarded::new("plan", plan, &mut self.rng);
+        let sheet = Guarded::new("sheet", sheet, &mut self.rng);
+        let mut target = Guarded::new("sums", into, &mut self.rng);
+        let null = self.rng.one_in(2);
+        let answer = sums(plan.content(), sheet.content(), run, target.content_mut(), null);
+        plan.assert_unchanged();
+        sheet.assert_unchanged();
+        target.hand_back(answer, into);
+        answer
+    }
+}
+
+/// A buffer in the middle of a larger one, and what the larger one held before the call.
+struct Guarded {
+    name: &'static str,
+    all: Vec<u8>,
+    before: Vec<u8>,
+    start: usize,
+    end: usize,
+}
+
+impl Guarded {
+    fn new(name: &'static str, content: &[u8], rng: &mut Rng) -> Guarded {
+        let (start, after) = (rng.within(16, 79), rng.within(16, 79));
+        let mut all = rng.bytes(start);
+        all.extend(content);
+        all.extend(rng.bytes(after));
+        Guarded { name, before: all.clone(), all, start, end: start + content.len() }
+    }
+
+    fn content(&self) -> &[u8] {
+        &self.all[self.start..self.end]
+    }
+
+    fn assert_unchanged(&self) {
+        assert!(self.all == self.before, "the {} or a byte around it was changed", self.name);
+    }
+
+    fn content_mut(&mut self) -> &mut [u8] {
+        &mut self.all[self.start..self.end]
+    }
+
+    /// Copy back what the call left in a buffer that it may write unless it refuses.
+    fn hand_back(&self, answer: u64, into: &mut [u8]) {
+        if Answer::unpack(answer).is_refusal() {
+            self.assert_unchanged();
+        }
+        let kept = self.all[..self.start] == self.before[..self.start]
+            && self.all[self.end..] == self.before[self.end..];
+        assert!(kept, "a byte around the {} was changed", self.name);
+        into.copy_from_slice(self.content());
+    }
+}

@@ -1,0 +1,162 @@
+//! The calls of libsheet.a: bare, and on guarded buffers.
+
+mod guarded;
+mod sums;
+
+pub use guarded::Library;
+pub use sums::{sums, sums_by_registers};
+
+use std::ptr;
+
+use crate::given::Given;
+
+type PlanTest = unsafe extern "C" fn(*const u8, usize) -> u64;
+type Write = unsafe extern "C" fn(*const u8, usize, *const u8, usize, *mut u8, usize) -> u64;
+type Read = unsafe extern "C" fn(*const u8, usize, *mut u8, usize, *mut u8, usize) -> u64;
+
+/// The calls of an archive that have been there from the first on, bare.
+#[derive(Clone, Copy)]
+pub struct Archive {
+    plan_test: PlanTest,
+    write: Write,
+    read: Read,
+    /// Hand over null for a buffer of length 0.
+    null: bool,
+}
+
+/// Names the symbols of an archive.
+macro_rules! archive {
+    ($(#[$about:meta])* $name:ident: $plan_test:ident, $write:ident, $read:ident) => {
+        extern "C" {
+            fn $plan_test(plan: *const u8, plan_len: usize) -> u64;
+            fn $write(
+                plan: *const u8, plan_len: usize,
+                data: *const u8, data_len: usize,
+                sheet: *mut u8, sheet_len: usize,
+            ) -> u64;
+            fn $read(
+                plan: *const u8, plan_len: usize,
+                sheet: *mut u8, sheet_len: usize,
+                data: *mut u8, data_len: usize,
+            ) -> u64;
+        }
+        $(#[$about])*
+        pub const $name: Archive =
+            Archive { plan_test: $plan_test, write: $write, read: $read, null: false };
+    };
+}
+
+archive! {
+    /// The archive under test.
+    SHEET: sheet_plan_test, sheet_write, sheet_read
+}
+
+#[cfg(feature = "before")]
+archive! {
+    /// The archive of an earlier commit, whose symbols have been given other names.
+    BEFORE: before_plan_test, before_write, before_read
+}
+
+#[rustfmt::skip]
+impl Archive {
+    /// The same calls, with null for a buffer of length 0.
+    pub const fn with_null(self) -> Archive {
+        Archive { null: true, ..self }
+    }
+
+    fn at(&self, buffer: &[u8]) -> *const u8 {
+        source(buffer, self.null)
+    }
+
+    fn at_mut(&self, buffer: &mut [u8]) -> *mut u8 {
+        target(buffer, self.null)
+    }
+
+    pub fn plan_test(&self, plan: &[u8]) -> u64 {
+        // SAFETY: a slice is readable for its length; where that is 0, any pointer may be given.
+        unsafe { (self.plan_test)(self.at(plan), plan.len()) }
+    }
+
+    pub fn write(&self, plan: &[u8], data: &[u8], sheet: &mut [u8]) -> u64 {
+        // SAFETY: slices are readable, and the mutable one writable and apart from the others.
+        unsafe {
+            (self.write)(
+                self.at(plan), plan.len(),
+                self.at(data), data.len(),
+                self.at_mut(sheet), sheet.len(),
+            )
+        }
+    }
+
+    pub fn read(&self, plan: &[u8], sheet: &mut [u8], data: &mut [u8]) -> u64 {
+        // SAFETY: as for `write`.
+        unsafe {
+            (self.read)(
+                self.at(plan), plan.len(),
+                self.at_mut(sheet), sheet.len(),
+                self.at_mut(data), data.len(),
+            )
+        }
+    }
+}
+
+/// Names the maker of plans of an archive, and a function that calls it: bare, or with null for a buffer
+/// of length 0.
+macro_rules! maker {
+    ($(#[$about:meta])* $name:ident: $plan_make:ident) => {
+        $(#[$about])*
+        pub fn $name(given: &Given, plan: &mut [u8], null: bool) -> u64 {
+            extern "C" {
+                fn $plan_make(
+                    n1: u32, n2: u32, b1: u32, b2: u32,
+                    rv: u32, v_low: u32, rh: u32, h_low: u32,
+                    plan: *mut u8, plan_len: usize,
+                ) -> u64;
+            }
+            let Given { n1, n2, b1, b2, rv, v_low, rh, h_low } = *given;
+            let at = target(plan, null);
+            // SAFETY: a mutable slice is writable for its length; where that is 0, any pointer may be
+            // given.
+            unsafe { $plan_make(n1, n2, b1, b2, rv, v_low, rh, h_low, at, plan.len()) }
+        }
+    };
+}
+
+maker! {
+    /// The maker of plans of the archive under test.
+    plan_make: sheet_plan_make
+}
+
+#[cfg(feature = "before")]
+maker! {
+    /// The maker of plans of an earlier commit, which has to have one.
+    plan_make_before: before_plan_make
+}
+
+/// The maker of the house plan, bare, or with null for a buffer of length 0. The archive of an earlier
+/// commit may have none.
+pub fn house_plan(plan: &mut [u8], null: bool) -> u64 {
+    extern "C" {
+        fn sheet_house_plan(plan: *mut u8, plan_len: usize) -> u64;
+    }
+    // SAFETY: as for `plan_make`.
+    unsafe { sheet_house_plan(target(plan, null), plan.len()) }
+}
+
+/// Where a call is to look; null for a buffer of length 0, if that is asked for.
+fn source(buffer: &[u8], null: bool) -> *const u8 {
+    if null && buffer.is_empty() {
+        ptr::null()
+    } else {
+        buffer.as_ptr()
+    }
+}
+
+/// Where a call is to write; null for a buffer of length 0, if that is asked for.
+fn target(buffer: &mut [u8], null: bool) -> *mut u8 {
+    if null && buffer.is_empty() {
+        ptr::null_mut()
+    } else {
+        buffer.as_mut_ptr()
+    }
+}
