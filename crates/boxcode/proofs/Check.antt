@@ -1,6 +1,7 @@
 -- Check cells and data cells, for any code of the right form:
 --
 --   number-row, number-column, number-on, number-cell    a cell and its number
+--   row-inside, column-inside    the cell with a number on the sheet
 --   order-below, order-twice     the two laws of the data's order; no other fact of it is used here
 --   column-below, order-cell     a row of the order is that row of the sheet: for payload, which walks it
 --   check-rise, check-listed     the check cells rise in sheet order, and are different cells of the sheet
@@ -85,23 +86,24 @@ module _ (c : Code) where
             let e : c .n1 * c .n2 ≡ 0 = ap (λ (x : ℕ). c .n1 * x) z ∙ mul-zero (c .n1) in
             absurd (omega arith)
 
-    inside : t % c .n2 < c .n2
-    inside = mod-lt t wide
+    -- the cell with number t is on the sheet
+    pub row-inside : t / c .n2 < c .n1
+    row-inside = div-lt-iff-lt-mul wide .1 l
 
-    row-below : t / c .n2 < c .n1
-    row-below = div-lt-iff-lt-mul wide .1 l
+    pub column-inside : t % c .n2 < c .n2
+    column-inside = mod-lt t wide
 
     pub order-below : dataOrder c t < c .n1 * c .n2
     unfolding dataOrder
-    order-below = number-on c (t / c .n2) (dataColumn c (t / c .n2) (t % c .n2)) (column-below (t / c .n2) (t % c .n2) inside) row-below
+    order-below = number-on c (t / c .n2) (dataColumn c (t / c .n2) (t % c .n2)) (column-below (t / c .n2) (t % c .n2) column-inside) row-inside
 
     pub order-twice : dataOrder c (dataOrder c t) ≡ t
     order-twice =
         let i = t / c .n2 in
         let j = t % c .n2 in
-        ap (dataOrder c) (ap (dataOrder c) (sym (number-cell c t)) ∙ order-cell i j inside)
-        ∙ order-cell i (dataColumn c i j) (column-below i j inside)
-        ∙ ap (cellNumber c i) (column-twice i j inside) ∙ number-cell c t
+        ap (dataOrder c) (ap (dataOrder c) (sym (number-cell c t)) ∙ order-cell i j column-inside)
+        ∙ order-cell i (dataColumn c i j) (column-below i j column-inside)
+        ∙ ap (cellNumber c i) (column-twice i j column-inside) ∙ number-cell c t
 
 -- for the bounds of document 01
 pub sheet-cells : {n1 n2 : ℕ} → n1 ≤ 512 → n2 ≤ 698 → n1 * n2 ≤ 357376

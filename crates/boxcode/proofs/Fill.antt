@@ -1,7 +1,6 @@
 -- Sheets by their check cells and their data, for any code of the right form:
 --
 --   checkCell, SameData  what a sheet has in check cell k; two sheets hold the same data
---   width-pos            the sheet has columns
 --   data-cells, cell-data, cell-check   what a sheet holds in its data cells and in its check cells
 --   same-cells           a sheet is known by its check cells and its data
 --   fill-check, data-fill   what a filled sheet has in check cell k, and as its data
@@ -9,15 +8,14 @@
 -- Assumes nothing.
 use mathlib.Core.Path.{_≡_, sym, ap, ap₂, _∙_}
 use mathlib.Core.Bool.{Bool, true, false, cond}
-use Prim.Native.Nat.{ℕ, _+_, _/_, _%_, _≤_, _<_}
-use native.Mathlib.Nat.{mod-lt, div-lt-iff-lt-mul}
-use native.Mathlib.Omega.{arith}
+use Prim.Native.Nat.{ℕ, _+_, _/_, _%_, _<_}
 use Rattle.finite.specs.Search.{bit}
 use Rattle.boxcode.specs.Code.{Code, Formed, cellNumber}
 use Rattle.boxcode.specs.Syndrome.{Cells, SameCells}
 use Rattle.boxcode.specs.Check.{Bits, checkNumber, checkAt, checkIndex, dataOrder, dataSize, rank, dataCell, fill, dataOf}
 use Rattle.finite.proofs.Truth.{Truth, is-true, is-false, true-or-false}
-use Rattle.boxcode.proofs.Check.{check-row, check-column, number-row, number-column, number-on, number-cell, check-here, check-found}
+use Rattle.boxcode.proofs.Check.{number-row, number-column, number-on, number-cell, row-inside, column-inside}
+use Rattle.boxcode.proofs.Check.{check-row, check-column, check-here, check-found}
 use Rattle.boxcode.proofs.Check.{check-index, data-below, data-free, data-rank, rank-below, rank-data}
 
 -- what a set of cells has in check cell k
@@ -29,14 +27,10 @@ abbrev pub SameData : Code → Cells → Cells → Type 0
 SameData c s t = (d : ℕ) → d < dataSize c → dataOf c s d ≡ dataOf c t d
 
 module _ (c : Code) (F : Formed c) where
-  -- the columns of the sheet are some
-  pub width-pos : 0 < c .n2
-  width-pos = let a : c .b2 ≤ c .n2 = F .n2-least in let b : 1 ≤ c .b2 = F .b2-pos in omega arith
-
   pub data-cells : (s t : Cells) → SameCells c s t → SameData c s t
   unfolding dataOf
   data-cells s t h d l =
-      h (dataCell c d / c .n2) (dataCell c d % c .n2) (div-lt-iff-lt-mul width-pos .1 (data-below c F d l)) (mod-lt (dataCell c d) width-pos)
+      h (dataCell c d / c .n2) (dataCell c d % c .n2) (row-inside c (dataCell c d) (data-below c F d l)) (column-inside c (dataCell c d) (data-below c F d l))
 
   -- a cell that is no check cell holds a data bit
   pub cell-data : (s : Cells) (i j : ℕ) → i < c .n1 → j < c .n2 → checkAt c (cellNumber c i j) ≡ false

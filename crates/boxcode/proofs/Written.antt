@@ -16,7 +16,6 @@
 use mathlib.Core.Path.{_≡_, refl, sym, ap, ap₂, _∙_}
 use mathlib.Core.Bool.{Bool, true, false, xor}
 use Prim.Native.Nat.{ℕ, _+_, _*_, _/_, _%_, _^_, _≤_, _<_}
-use native.Mathlib.Nat.{div-lt-iff-lt-mul, mod-lt}
 use native.Mathlib.Omega.{arith}
 use Rattle.gf2.specs.Xor.{_⊕_, pick}
 use Rattle.gf2.specs.Sum.{chosenSum}
@@ -36,8 +35,8 @@ use Rattle.finite.proofs.Search.{least-found, least-most}
 use Rattle.finite.proofs.Digits.{bit-none, number-below, bit-number}
 use Rattle.boxcode.proofs.Image.{sum-image, unpicked}
 use Rattle.boxcode.proofs.Syndrome.{weight-flip, weight-flat, weight-below, joint-below, check-below, joint-belongs, belongs-joint}
-use Rattle.boxcode.proofs.Check.{check-row, check-column, number-cell, check-listed, check-found, rank-below}
-use Rattle.boxcode.proofs.Fill.{checkCell, SameData, cell-data, same-cells, fill-check, data-fill, width-pos}
+use Rattle.boxcode.proofs.Check.{check-row, check-column, number-cell, row-inside, column-inside, check-listed, check-found, rank-below}
+use Rattle.boxcode.proofs.Fill.{checkCell, SameData, cell-data, same-cells, fill-check, data-fill}
 
 spans-all : (n : ℕ) (f : ℕ → ℕ) → n ≤ 64 → ((k : ℕ) → k < n → f k < 2 ^ n) → Independent n everyone f → (x : ℕ) → x < 2 ^ n
     → (m : ℕ → Bool) × (chosenSum n m f ≡ x)
@@ -81,7 +80,7 @@ module _ (c : Code) (F : Formed c) where
           let q : cellNumber c i j ≡ t = number-cell c t in
           let f : checkAt c (cellNumber c i j) ≡ false =
           not-true (checkAt c (cellNumber c i j)) (λ u. let w = check-found c F (cellNumber c i j) u in miss (w .0) (w .1) (w .2 ∙ q)) in
-          cell-data c F e i j (div-lt-iff-lt-mul (width-pos c F) .1 l) (mod-lt t (width-pos c F)) f
+          cell-data c F e i j (row-inside c t l) (column-inside c t l) f
           ∙ none _ (rank-below c F (cellNumber c i j) (omega arith) f)
 
   -- two sheets with the same data differ in check cells only

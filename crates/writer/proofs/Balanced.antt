@@ -9,7 +9,6 @@ use mathlib.Core.Path.{_≡_, refl, sym, ap, ap₂, _∙_}
 use mathlib.Core.Bool.{Bool, true, false, xor, _&&_}
 use mathlib.Core.List.{List}
 use Prim.Native.Nat.{ℕ, zero, suc, _+_, _/_, _%_, _≤_, _<_}
-use native.Mathlib.Nat.{mod-lt, div-lt-iff-lt-mul}
 use native.Mathlib.Numerals.{add-one}
 use native.Mathlib.Decide.{ℕ-discrete, decLt}
 use native.Mathlib.Omega.{arith}
@@ -26,8 +25,8 @@ use Rattle.boxcode.specs.Code.{Code, Formed, cellNumber, checkJoint}
 use Rattle.boxcode.specs.Condition.{Conditions}
 use Rattle.boxcode.specs.Syndrome.{Cells, Belongs}
 use Rattle.boxcode.specs.Check.{Bits, checkNumber, checkAt, dataSize, dataCell, fill, written, dataOf}
-use Rattle.boxcode.proofs.Check.{number-cell, check-listed, check-here, data-below, data-free}
-use Rattle.boxcode.proofs.Fill.{checkCell, SameData, width-pos, data-cells, data-fill}
+use Rattle.boxcode.proofs.Check.{number-cell, row-inside, column-inside, check-listed, check-here, data-below, data-free}
+use Rattle.boxcode.proofs.Fill.{checkCell, SameData, data-cells, data-fill}
 use Rattle.boxcode.proofs.Written.{balanced}
 use Rattle.boxcode.proofs.Theorems.{written-only, written-same}
 use Rattle.writer.specs.Steps.{JointSum, turnedTo}
@@ -96,9 +95,9 @@ module _ (c : Code) (F : Formed c) where
   data-kept t k s f lk d ld =
       let a = dataCell c d / c .n2 in
       let b = dataCell c d % c .n2 in
-      let w = width-pos c F in
+      let l = data-below c F d ld in
       turned-if-cell (c .n1) (c .n2) s f (c .checkRow k) (c .checkColumn k) (F .check-rows k lk) (F .check-columns k lk) t a b
-      (div-lt-iff-lt-mul w .1 (data-below c F d ld)) (mod-lt (dataCell c d) w)
+      (row-inside c (dataCell c d) l) (column-inside c (dataCell c d) l)
       ∙ ap (λ (e : Bool). xor (cells s a b) (t && e)) (no-data k d lk ld)
       ∙ ap (xor (cells s a b)) (and-false t)
       ∙ xor-none (cells s a b)
