@@ -3,6 +3,7 @@
 --   joint-word      rv + rh digits are at most 64
 --   joint-of        a joint entry from its two entries: the value, and that it has rv + rh digits
 --   shift-exact     what the code's `1 << rv` says
+--   joined-fits     a V and an H number of 32 bits side by side fit a word
 --   joints-none, joints-next   the joint entries of none, and of one check cell more, in an array
 --   joints-taken    the first check cell that depends on earlier ones is where the basis stops
 --
@@ -10,7 +11,7 @@
 use mathlib.Core.Path.{_≡_, refl, sym, _∙_}
 use mathlib.Core.List.{List, []}
 use Prim.Native.Nat.{ℕ, _+_, _*_, _%_, _^_, _≤_, _<_}
-use native.Mathlib.Nat.{one-mul}
+use native.Mathlib.Nat.{one-mul, mul-le-mul-right}
 use native.Mathlib.Numerals.{add-one}
 use native.Mathlib.Omega.{arith}
 use lib.ListN.{length, take, set}
@@ -32,6 +33,9 @@ joint-word rv rh l u = pow-mono {i = rv + rh} {j = 64} (omega arith)
 
 pub shift-exact : (rv : ℕ) → rv ≤ 32 → 1 * 2 ^ rv % 2 ^ 64 ≡ 2 ^ rv
 shift-exact rv l = shl-exact 1 rv 64 (omega arith) (omega arith) ∙ one-mul (2 ^ rv)
+
+pub joined-fits : (rv v h : ℕ) → rv ≤ 32 → v < 4294967296 → h < 4294967296 → v + 2 ^ rv * h ≤ 18446744073709551615
+joined-fits rv v h l lv lh = omega (arith, mul-le-mul-right h (pow-mono {i = rv} {j = 32} l))
 
 module _ (c : Code) (F : Formed c) where
   pub joint-of : (i j v w : ℕ) → i < c .n1 → j < c .n2 → v ≡ rowWeight c i j → w ≡ columnWeight c i j → Joint c i j (v + 2 ^ c .rv * w)

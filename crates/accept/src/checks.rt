@@ -1,6 +1,6 @@
 // Check 10: the joint entries of the check cells are independent.
 ghost use mathlib.Core.Path.{_≡_};
-ghost use Prim.Native.Nat.{_+_, _*_, _<_};
+ghost use Prim.Native.Nat.{_+_, _*_, _^_, _≤_, _<_};
 ghost use Rattle.boxcode.specs.Code.{Formed};
 ghost use Rattle.plan.specs.Header.{Framed};
 ghost use Rattle.plan.specs.Bytes.{codeWith};
@@ -15,7 +15,15 @@ use plan::header::Header;
 use plan::verdict::Verdict;
 use plan::verdict::refuse_if;
 
-// The joint entry of cell (i, j): its V entry, and its H entry above the rv bits of that.
+// A V and an H number side by side: h above the rv bits of v.
+pub fn joined(rv: usize, v: u64, h: u64) -> u64
+    requires { ⌜ (rv ≤ 32) × (v < 2 ^ 32) × (h < 2 ^ 32) ⌝ }
+    ensures { λ r. ⌜ r ≡ v + 2 ^ rv * h ⌝ }
+{
+    v + (1u64 << rv) * h
+}
+
+// The joint entry of cell (i, j): its V entry and its H entry, joined.
 pub fn joint_entry(plan: &[u8], h: Header, i: usize, j: usize) -> u64
     requires { ⌜ Framed (now plan) h ⌝ }
     requires { ⌜ Formed (codeWith (now plan) h) ⌝ }
@@ -24,7 +32,7 @@ pub fn joint_entry(plan: &[u8], h: Header, i: usize, j: usize) -> u64
 {
     let v = row_weight(plan, h, i, j);
     let w = column_weight(plan, h, i, j);
-    v + (1u64 << h.rv) * w
+    joined(h.rv, v, w)
 }
 
 // The joint entries of all check cells; zeros after them.

@@ -1,6 +1,5 @@
 -- Cells, their joint entries, and the next cell, taken or not.
 --
---   joint-fits        a joint entry fits 64 digits
 --   cell-joint        the joint entry of the cell in row i and column j
 --   taken-step        one cell more
 --   taken-most        at most as many as are needed
@@ -12,16 +11,15 @@
 use mathlib.Core.Path.{_≡_, sym, ap, ap₂, _∙_}
 use mathlib.Core.Bool.{Bool, true, false, _&&_, cond}
 use mathlib.Core.List.{List}
-use Prim.Native.Nat.{ℕ, suc, _+_, _*_, _^_, _≤_, _<_}
+use Prim.Native.Nat.{ℕ, suc, _+_, _*_, _≤_, _<_}
 use native.Mathlib.Decide.{ℕ-discrete, decLe}
-use native.Mathlib.Nat.{mul-le-mul-right, add-mul, one-mul}
+use native.Mathlib.Nat.{add-mul, one-mul}
 use native.Mathlib.Numerals.{add-one}
 use native.Mathlib.Omega.{arith}
 use borrow.Author.Tests.{eq-eqb, ne-eqb, ltb-true, ltb-false, lt-ltb}
 use lib.Arith.{digits-div, digits-mod}
 use lib.Dec.{eqb, ltb}
 use lib.ListN.{length, take, set, length-replicate}
-use lib.Pow.{pow-mono}
 use Rattle.finite.proofs.Truth.{both}
 use Rattle.gf2.specs.Basis.{emptyWords}
 use Rattle.gf2.specs.Swept.{swept}
@@ -29,9 +27,6 @@ use Rattle.gf2.specs.Taking.{TakenIn}
 use Rattle.gf2.proofs.Taking.{first-most, taking-in, taking-out, taking-full}
 use Rattle.boxcode.specs.Code.{Code, jointWeight}
 use Rattle.maker.specs.Taken.{cellJoint}
-
-pub joint-fits : (rv v w : ℕ) → rv ≤ 32 → v < 4294967296 → w < 4294967296 → v + 2 ^ rv * w ≤ 18446744073709551615
-joint-fits rv v w l lv lw = omega (arith, mul-le-mul-right w (pow-mono {i = rv} {j = 32} l))
 
 pub cell-joint : (c : Code) (i j : ℕ) → j < c .n2 → cellJoint c (i * c .n2 + j) ≡ jointWeight c i j
 unfolding cellJoint

@@ -7,6 +7,7 @@ ghost use Rattle.boxcode.specs.Code.{jointWeight};
 ghost use Rattle.plan.specs.Header.{Small};
 ghost use Rattle.plan.specs.Table.{wordAt};
 ghost use Rattle.maker.specs.Taken.{Tables, bareCode, HeldTo};
+use accept::checks::joined;
 use gf2::empty_basis;
 use gf2::sweep;
 use layout::cycle::after;
@@ -20,8 +21,8 @@ pub struct Taken {
     pub count: usize,
 }
 
-// The joint entry of cell (i, j): its V entry, and its H entry above the rv digits of that. The remainders of i and j are handed in, so
-// that no cell asks for a division.
+// The joint entry of cell (i, j): its V entry and its H entry, joined. The remainders of i and j are handed in, so that no cell asks for
+// a division.
 fn joint(
     h: Header,
     rows: &[u64],
@@ -36,7 +37,9 @@ fn joint(
     requires { ⌜ (i < h .n1) × (j < h .n2) × (down ≡ i % h .b1) × (along ≡ j % h .b2) ⌝ }
     ensures { λ r. ⌜ r ≡ jointWeight (bareCode h (wordAt (now (rows .entry))) (wordAt (now (columns .entry)))) i j ⌝ }
 {
-    rows[i * h.b2 + along] + (1u64 << h.rv) * columns[j * h.b1 + down]
+    let v = rows[i * h.b2 + along];
+    let w = columns[j * h.b1 + down];
+    joined(h.rv, v, w)
 }
 
 // How many cells more are taken: 1 where something of the joint entry is left, since it is then no exclusive-or of those taken.

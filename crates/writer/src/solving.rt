@@ -12,13 +12,14 @@ ghost use Rattle.plan.specs.Bytes.{codeWith};
 ghost use Rattle.plan.specs.Table.{Unpacked};
 ghost use Rattle.writer.specs.Steps.{JointSum};
 use accept::checks::check_joints;
+use accept::checks::joined;
 use gf2::Solution;
 use gf2::find_combination;
 use plan::header::Header;
 use syndrome::gather::sums;
 use syndrome::run::Run;
 
-// The joint sum of a sheet: its V sum, and its H sum above the rv digits of that.
+// The joint sum of a sheet: its V sum and its H sum, joined.
 pub fn joint_sum(sheet: &[u8], plan: &[u8], h: Header, columns: &[u64]) -> u64
     requires { ⌜ Framed (now plan) h ⌝ }
     requires { ⌜ Formed (codeWith (now plan) h) ⌝ }
@@ -31,7 +32,7 @@ pub fn joint_sum(sheet: &[u8], plan: &[u8], h: Header, columns: &[u64]) -> u64
         past: h.n1,
     };
     let s = sums(sheet, plan, h, columns, whole);
-    s.row + (1u64 << h.rv) * s.column
+    joined(h.rv, s.row, s.column)
 }
 
 // The check cells, as digits of a number, whose joint entries sum to the target. Under an accepted plan there are always some.
