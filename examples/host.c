@@ -1,7 +1,7 @@
 /*
  * A whole host: makes a plan for sheets of 16 rows and 40 columns and bursts of 3 by 3 cells, writes a drawing to a
- * sheet, puts a burst on it, sums it in two halves, reads it back, and shows each step. Cells inside the mended
- * rectangle are shown as O (dark) and o (light).
+ * sheet, puts a burst on it, sums it in two halves, reads it back, alters one stitch, and shows each step. Cells inside
+ * the mended rectangle are shown as O (dark) and o (light).
  *
  *     gcc -Iinclude examples/host.c target/staticlib/libsheet.a -o host && ./host
  */
@@ -30,6 +30,7 @@ static uint8_t *plan;
 static size_t plan_len;
 static uint8_t data[DATA_LEN], back[DATA_LEN], sheet[SHEET_LEN], scan[SHEET_LEN];
 static int is_check[ROWS][COLUMNS];
+static uint32_t position[ROWS][COLUMNS]; /* of the cells that are not check cells */
 
 /* A plan from two polynomials, which serve for sheets from 8 rows and 7 columns up to 512 and 698. */
 static uint64_t make_plan(void) {
@@ -49,13 +50,13 @@ static void find_checks(void) {
 
 /* The drawing as data: the cells that are not check cells, row by row, in odd rows from the highest column down. */
 static void draw(void) {
-    size_t d = 0;
+    uint32_t d = 0;
     for (size_t i = 0; i < ROWS; i++)
         for (size_t n = 0; n < COLUMNS; n++) {
             size_t j = i % 2 == 1 ? COLUMNS - 1 - n : n;
             if (is_check[i][j]) continue;
             if (drawing[i][j] == '#') data[d / 8] |= (uint8_t)(1u << d % 8);
-            d++;
+            position[i][j] = d++;
         }
 }
 
@@ -105,6 +106,16 @@ static void show_sums(void) {
     printf(": %s is to be mended\n", v == 0 && h == 0 ? "nothing" : "something");
 }
 
+/* One stitch of the scan altered: what is left reads as the altered data, and is the sheet written afresh from it. */
+static int alter_stitch(size_t i, size_t j) {
+    uint32_t d = position[i][j];
+    if (sheet_alter(plan, plan_len, scan, SHEET_LEN, d) != SHEET_OK) return 0;
+    data[d / 8] ^= (uint8_t)(1u << d % 8);
+    if (sheet_read(plan, plan_len, scan, SHEET_LEN, back, DATA_LEN) != SHEET_OK) return 0;
+    if (sheet_write(plan, plan_len, data, DATA_LEN, sheet, SHEET_LEN) != SHEET_OK) return 0;
+    return memcmp(scan, sheet, SHEET_LEN) == 0 && memcmp(back, data, DATA_LEN) == 0;
+}
+
 int main(void) {
     uint64_t answer = make_plan();
     if (sheet_answer_number(answer) != SHEET_OK) {
@@ -135,6 +146,11 @@ int main(void) {
            sheet_answer_width(answer));
     if (memcmp(scan, sheet, SHEET_LEN) != 0 || memcmp(back, data, DATA_LEN) != 0) return 1;
     printf("the sheet and its data are as written\n");
+
+    if (!alter_stitch(7, 16)) return 1;
+    show("\nthe stitch at row 7, column 16 altered, and with it check cells:", scan, 0);
+    printf("data bit %lu of %lu is altered, and the sheet is as written afresh\n", (unsigned long)position[7][16],
+           (unsigned long)sheet_plan_data_bits(plan, plan_len));
     free(plan);
     return 0;
 }

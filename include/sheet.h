@@ -1,9 +1,9 @@
 /*
  * sheet.h: pattern sheets that survive one burst.
  *
- * Six calls on byte buffers: make a plan, make the house plan, test a plan, write a sheet, read a sheet, sum a run of
- * rows. Each answers one 64-bit number, which the functions below take apart. The bytes of plans, sheets and data are
- * described in docs/FORMAT.md.
+ * Seven calls on byte buffers: make a plan, make the house plan, test a plan, write a sheet, read a sheet, sum a run of
+ * rows, alter one data bit of a sheet. Each answers one 64-bit number, which the functions below take apart. The bytes
+ * of plans, sheets and data are described in docs/FORMAT.md.
  *
  * Promise, proved for every accepted plan (docs/PROMISE.md): a sheet that sheet_write made, with any cells of one
  * rectangle of the plan's b1 rows and b2 columns turned over, is read back by sheet_read as it was written.
@@ -18,6 +18,8 @@
  *     accepted  of a plan: sheet_plan_test answers SHEET_OK
  *     run       consecutive rows, from one number up to but not including another: a run of courses
  *     sums      of a sheet or a run: the exclusive-or of the V entries, and that of the H entries, of its dark cells
+ *     belongs   of a sheet to its plan: both its sums are 0, as those of every written sheet are
+ *     position  the number of a data bit, from 0 on: a stitch of the drawing, counted as the carriage goes
  *
  * The machine. libsheet.a is for x86-64 Linux, 64-bit: the C calling convention of System V, and a size_t of 8 bytes,
  * which is checked below. Of the C library it needs memcpy and memset, and nothing else.
@@ -54,7 +56,8 @@ enum {
     SHEET_PLAN_MAKE_STACK = 98304,    /* bytes of stack that are enough for sheet_plan_make, and for sheet_house_plan */
     SHEET_PLAN_TEST_STACK = 65536,    /* bytes of stack that are enough for sheet_plan_test */
     SHEET_WRITE_READ_STACK = 65536,   /* bytes of stack that are enough for sheet_write, and for sheet_read */
-    SHEET_SUMS_STACK = 65536          /* bytes of stack that are enough for sheet_sums */
+    SHEET_SUMS_STACK = 65536,         /* bytes of stack that are enough for sheet_sums */
+    SHEET_ALTER_STACK = 65536         /* bytes of stack that are enough for sheet_alter */
 };
 
 /* The numbers of an answer, and what its places p and q tell. */
@@ -72,10 +75,12 @@ enum {
     SHEET_PLAN_DEPENDENT = 10, /* a check cell depends on earlier ones; index, 0 */
     SHEET_SHEET_LENGTH = 11,  /* the sheet buffer has another length; 0, 0 */
     SHEET_DATA_LENGTH = 12,   /* the data buffer has another length; 0, 0 */
-    SHEET_UNUSED_BIT = 13,    /* an unused bit is 1, of the sheet read or summed or the data written; byte index, 0 */
+    SHEET_UNUSED_BIT = 13,    /* an unused bit is 1, of data written or sheet read, summed or altered; byte index, 0 */
     SHEET_NOT_MENDABLE = 14,  /* no single burst brings both sums to 0; 0, 0 */
     SHEET_PLAN_POLYNOMIAL = 15, /* a polynomial has constant term 0, or a coefficient at or above its degree; 0, 0 */
     SHEET_PLAN_FEW_CELLS = 16, /* fewer than rv + rh check cells could be taken; 0, 0 */
+    SHEET_POSITION = 17,      /* the position is k or more; 0, 0 */
+    SHEET_NOT_BELONGING = 18, /* the sheet to alter does not belong to its plan; 0, 0 */
     SHEET_SUMS_LENGTH = 24    /* the buffer of the sums has another length; 0, 0 */
 };
 
@@ -131,6 +136,16 @@ uint64_t sheet_read(const uint8_t *plan, size_t plan_len, uint8_t *sheet, size_t
 uint64_t sheet_sums(const uint8_t *plan, size_t plan_len, const uint8_t *sheet, size_t sheet_len, uint32_t first,
                     uint32_t past, uint8_t *sums, size_t sums_len);
 
+/*
+ * Alters one data bit of a sheet: checks 1 to 11, 13, 17 and 18, then turns over the cell that holds data bit position,
+ * and those check cells that bring both sums back to 0. No other cell changes. Leaves plan alone.
+ * position may be any number; those below sheet_plan_data_bits are taken. Data bits are counted as in sheet_write. The
+ * sheet has to belong to its plan, and is not mended first: sheet_read does that.
+ * What is left is the sheet that sheet_write makes from the altered data. So it is after any run of alterations, in any
+ * order; and the same one made twice restores the sheet.
+ */
+uint64_t sheet_alter(const uint8_t *plan, size_t plan_len, uint8_t *sheet, size_t sheet_len, uint32_t position);
+
 /* An answer taken apart (docs/ANSWER.md). */
 static inline unsigned sheet_answer_number(uint64_t answer) { return (unsigned)(answer & 31u); }
 static inline unsigned sheet_answer_p(uint64_t answer) { return (unsigned)((answer >> 5) & 65535u); }
@@ -162,15 +177,22 @@ static inline size_t sheet_plan_field(const uint8_t *plan, size_t plan_len, size
     return plan_len < SHEET_PLAN_HEADER_BYTES ? 0 : (size_t)plan[at] + 256u * (size_t)plan[at + 1];
 }
 
-/* The sizes that an accepted plan asks for: bytes of a sheet, and bytes of its data. Any bytes may be handed in. */
+/*
+ * The sizes that an accepted plan asks for: bytes of a sheet; k, the number of its data bits; and bytes of its data.
+ * Any bytes may be handed in.
+ */
 static inline size_t sheet_plan_sheet_bytes(const uint8_t *plan, size_t plan_len) {
     return sheet_plan_field(plan, plan_len, 0) * ((sheet_plan_field(plan, plan_len, 2) + 7) / 8);
 }
 
-static inline size_t sheet_plan_data_bytes(const uint8_t *plan, size_t plan_len) {
+static inline size_t sheet_plan_data_bits(const uint8_t *plan, size_t plan_len) {
     size_t cells = sheet_plan_field(plan, plan_len, 0) * sheet_plan_field(plan, plan_len, 2);
     size_t checks = sheet_plan_field(plan, plan_len, 8) + sheet_plan_field(plan, plan_len, 10);
-    return cells < checks ? 0 : (cells - checks + 7) / 8;
+    return cells < checks ? 0 : cells - checks;
+}
+
+static inline size_t sheet_plan_data_bytes(const uint8_t *plan, size_t plan_len) {
+    return (sheet_plan_data_bits(plan, plan_len) + 7) / 8;
 }
 
 #ifdef __cplusplus

@@ -28,8 +28,10 @@ int main(void) {
     uint8_t *none = malloc(sheet_plan_data_bytes(plan_n, sizeof plan_n));
     uint64_t answer;
 
-    expect("sizes of no plan", sheet_plan_sheet_bytes(NULL, 0) == 0 && sheet_plan_data_bytes(NULL, 0) == 0);
-    expect("plan N has no data", sheet_plan_data_bytes(plan_n, sizeof plan_n) == 0);
+    expect("sizes of no plan", sheet_plan_sheet_bytes(NULL, 0) == 0 && sheet_plan_data_bytes(NULL, 0) == 0 &&
+                                   sheet_plan_data_bits(NULL, 0) == 0);
+    expect("plan N has no data", sheet_plan_data_bytes(plan_n, sizeof plan_n) == 0 &&
+                                     sheet_plan_data_bits(plan_n, sizeof plan_n) == 0);
 
     expect("test, no plan", answers(sheet_plan_test(NULL, 0), SHEET_PLAN_SHORT));
     expect("test, plan N", answers(sheet_plan_test(plan_n, sizeof plan_n), SHEET_OK));
@@ -68,6 +70,13 @@ int main(void) {
     expect("sums, no sums", answers(sheet_sums(plan_n, sizeof plan_n, sheet, 1, 0, 1, NULL, 0), SHEET_SUMS_LENGTH));
     expect("sums, no rows", answers(sheet_sums(plan_n, sizeof plan_n, sheet, 1, 1, 0, NULL, 0), SHEET_SUMS_LENGTH));
     expect("a refusal changes no sums", sums[0] == 0xaa && sheet_sums_h(sums) == 0);
+
+    expect("alter, no plan", answers(sheet_alter(NULL, 0, sheet, 1, 0), SHEET_PLAN_SHORT));
+    expect("alter, nothing", answers(sheet_alter(NULL, 0, NULL, 0, 0), SHEET_PLAN_SHORT));
+    expect("alter, no sheet", answers(sheet_alter(plan_s, sizeof plan_s, NULL, 0, 0), SHEET_SHEET_LENGTH));
+    expect("alter, neither", answers(sheet_alter(plan_n, sizeof plan_n, NULL, 0, 0), SHEET_SHEET_LENGTH));
+    expect("alter, k = 0", answers(sheet_alter(plan_n, sizeof plan_n, sheet, 1, 0), SHEET_POSITION));
+    expect("a refusal leaves the sheet", sheet[0] == 0 && sheet[1] == 0xaa);
 
     expect("write, malloc(0)", answers(sheet_write(plan_n, sizeof plan_n, none, 0, sheet, 1), SHEET_OK));
     expect("read, malloc(0)", answers(sheet_read(plan_n, sizeof plan_n, sheet, 1, none, 0), SHEET_OK));

@@ -1,5 +1,5 @@
-//! The small plans of document 01 and what they do ("Small plans and what they do"), and sums of runs that
-//! are worked out by hand.
+//! The small plans of document 01 and what they do ("Small plans and what they do"), and sums of runs and
+//! alterations that are worked out by hand.
 
 use std::ops::Range;
 
@@ -190,5 +190,33 @@ pub fn run_cases() -> Vec<RunCase> {
         t([0x03, 0x05], case6),
         t([0x0c, 0x05], case7),
         (plan_two_rows(), vec![0x02, 0x02, 0x02], by_number),
+    ]
+}
+
+/// A plan, and for each position the cells that an alteration turns over, as a sheet that is dark there.
+pub type AlterCase = (Plan, Vec<Vec<u8>>);
+
+/// Worked out by hand: of each position the cell, with its V and H entry, and the check cells that have
+/// the same two sums. Entries are those told at `run_cases` and at `plan_two_rows`.
+pub fn alter_cases() -> Vec<AlterCase> {
+    // The check cells of S have (0, 0): 1 0, (0, 1): 1 1, (0, 2): 1 2, (1, 0): 2 0.
+    let s = [
+        [0x05, 0x05, 0x00], // (1, 2): 2 2, as (0, 0), (0, 2) and (1, 0) have
+        [0x03, 0x03, 0x00], // (1, 1): 2 1, as (0, 0), (0, 1) and (1, 0)
+        [0x01, 0x01, 0x01], // (2, 0): 3 0, as (0, 0) and (1, 0)
+        [0x02, 0x01, 0x02], // (2, 1): 3 1, as (0, 1) and (1, 0)
+        [0x04, 0x01, 0x04], // (2, 2): 3 2, as (0, 2) and (1, 0)
+    ];
+    // Those of T have (0, 0): 1 0, (0, 1): 2 0, (0, 2): 1 1, (0, 3): 2 2, (1, 0): 4 0, (1, 1): 8 0.
+    let t = [
+        [0x0a, 0x0a], // (1, 3): 8 2, as (0, 1), (0, 3) and (1, 1)
+        [0x05, 0x05], // (1, 2): 4 1, as (0, 0), (0, 2) and (1, 0)
+    ];
+    // And with bursts of two rows (0, 0): 1 0, (0, 1): 1 1, (1, 0): 2 0, (1, 1): 2 2, (2, 0): 4 0.
+    let two_rows = [[0x03, 0x00, 0x03]]; // (2, 1): 4 1, as (0, 0), (0, 1) and (2, 0)
+    vec![
+        (plan_s(), s.map(Vec::from).to_vec()),
+        (plan_t(), t.map(Vec::from).to_vec()),
+        (plan_two_rows(), two_rows.map(Vec::from).to_vec()),
     ]
 }

@@ -141,12 +141,52 @@ impl Harness {
         (v, h)
     }
 
+    /// Alter one data bit of a sheet by the library. Answer and every byte of the sheet must be the
+    /// model's.
+    pub fn alter(&mut self, plan: &[u8], sheet: &[u8], position: u32) -> u64 {
+        let by_model = |sheet: &mut [u8]| model::alter(plan, sheet, position);
+        self.altered_beside(plan, sheet, position, by_model).0
+    }
+
+    /// The same under a plan that is known to be accepted; the answer, and the sheet as it is left.
+    pub fn altered(&mut self, plan: &Plan, sheet: &[u8], position: u32) -> (u64, Vec<u8>) {
+        let by_model = |sheet: &mut [u8]| model::alter_accepted(plan, sheet, position);
+        self.altered_beside(&plan.encode(), sheet, position, by_model)
+    }
+
+    fn altered_beside(
+        &mut self,
+        plan: &[u8],
+        sheet: &[u8],
+        position: u32,
+        by_model: impl FnOnce(&mut [u8]) -> Answer,
+    ) -> (u64, Vec<u8>) {
+        let (mut expected, mut left) = (sheet.to_vec(), sheet.to_vec());
+        let answer = self.library.alter(plan, &mut left, position);
+        let told = by_model(&mut expected);
+        let both =
+            format!("library {:?}, model {told:?}, position {position}", Answer::unpack(answer));
+        assert_eq!(answer, told.pack(), "{both}");
+        assert!(left == expected, "the altered sheet differs from the model's: {both}");
+        (answer, left)
+    }
+
     /// A sheet that the library wrote from random data, compared with the model's.
     pub fn written(&mut self, plan: Plan) -> Written {
         let bytes = plan.encode();
         let data = random_data(&plan, &mut self.rng);
         assert_eq!(self.write(&bytes, &data, plan.sheet_len()), 0);
         let sheet = model::write_sheet(&plan, &data);
+        Written { plan, bytes, data, sheet }
+    }
+
+    /// The same under a plan that is known to be accepted, which the model does not test anew.
+    pub fn written_accepted(&mut self, plan: Plan) -> Written {
+        let bytes = plan.encode();
+        let data = random_data(&plan, &mut self.rng);
+        let mut sheet = self.rng.bytes(plan.sheet_len());
+        assert_eq!(self.library.write(&bytes, &data, &mut sheet), 0);
+        assert!(sheet == model::write_sheet(&plan, &data), "the sheet differs from the model's");
         Written { plan, bytes, data, sheet }
     }
 

@@ -1,4 +1,4 @@
-//! An independent model of the product of document 01 (01-scope.md) and of requests a, c, d and e of
+//! An independent model of the product of document 01 (01-scope.md) and of requests a, c, d, e and f of
 //! document 02 (02-change-requests.md), written from their words alone, and what the tests and timings
 //! of libsheet.a need beside it.
 //!
@@ -19,6 +19,7 @@ pub mod line;
 pub mod make;
 pub mod model;
 pub mod plan;
+pub mod positions;
 pub mod rng;
 pub mod runs;
 pub mod scans;

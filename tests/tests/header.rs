@@ -5,7 +5,7 @@ use std::thread;
 
 use sheet_tests::answer::Answer;
 use sheet_tests::cases::{plan_s, plan_t};
-use sheet_tests::ffi::{house_plan, plan_make, sums, SHEET};
+use sheet_tests::ffi::{alter, house_plan, plan_make, sums, SHEET};
 use sheet_tests::given::{Given, HOUSE};
 use sheet_tests::header::constant;
 use sheet_tests::make::{
@@ -28,6 +28,12 @@ fn numbers_of_the_maker() {
 #[test]
 fn numbers_of_the_sums() {
     assert_eq!([constant("SHEET_SUMS_LENGTH"), constant("SHEET_SUMS_BYTES")], [24, 8]);
+}
+
+/// The numbers of the checks that an alteration brings.
+#[test]
+fn numbers_of_an_alteration() {
+    assert_eq!([constant("SHEET_POSITION"), constant("SHEET_NOT_BELONGING")], [17, 18]);
 }
 
 #[test]
@@ -151,6 +157,30 @@ fn stack_of_the_sums() {
     }
 }
 
+/// The first position and the last, and refusals by the last two checks.
+#[test]
+fn stack_of_altering() {
+    let enough = constant("SHEET_ALTER_STACK");
+    let mut rng = Rng::new(4);
+    for plan in large_plans(&mut rng) {
+        let written = model::write_sheet(&plan, &random_data(&plan, &mut rng));
+        let wrong = turned(&plan, &written, &[(plan.n1 - 1, plan.n2 - 1)]);
+        let last = plan.data_bits() as u32 - 1;
+        for (sheet, position, number) in
+            [(&written, 0, 0), (&written, last, 0), (&wrong, last + 1, 17), (&wrong, last, 18)]
+        {
+            let (bytes, mut left, mut expected) = (plan.encode(), sheet.clone(), sheet.clone());
+            let told = model::alter_accepted(&plan, &mut expected, position);
+            assert_eq!(told.number, number);
+            let (answer, left) = with_stack(enough, move || {
+                let answer = alter(&bytes, &mut left, position, false);
+                (answer, left)
+            });
+            assert!(answer == told.pack() && left == expected, "{answer:#x} at {position}");
+        }
+    }
+}
+
 /// Bytes, or none if a bit of `empty` says so.
 fn kept(empty: usize, buffer: usize, bytes: Vec<u8>) -> Vec<u8> {
     if empty >> buffer & 1 == 1 {
@@ -213,6 +243,24 @@ fn null_sums() {
             assert_eq!(told.number, [0, 1, 11, 1, 24, 1, 11, 1][empty]);
             assert_eq!(sums(&bytes, &sheet, whole(&plan), &mut into, true), told.pack());
             assert_eq!(into, expected);
+        }
+    }
+}
+
+/// The same for an alteration: the plan and the sheet.
+#[test]
+fn null_altered() {
+    for (plan, numbers) in
+        [(plan_s(), [0, 1, 11, 1]), (plan_t(), [0, 1, 11, 1]), (no_data(), [17, 1, 11, 1])]
+    {
+        for (empty, number) in numbers.into_iter().enumerate() {
+            let bytes = kept(empty, 0, plan.encode());
+            let sheet = kept(empty, 1, vec![0; plan.sheet_len()]);
+            let (mut left, mut expected) = (sheet.clone(), sheet);
+            let told = model::alter(&bytes, &mut expected, 0);
+            assert_eq!(told.number, number);
+            assert_eq!(alter(&bytes, &mut left, 0, true), told.pack());
+            assert_eq!(left, expected);
         }
     }
 }

@@ -5,7 +5,7 @@ use std::collections::BTreeSet;
 
 use sheet_tests::answer::Answer;
 use sheet_tests::cases::{
-    plan_cases, plan_s, plan_t, plan_two_rows, read_cases, run_cases, write_cases,
+    alter_cases, plan_cases, plan_s, plan_t, plan_two_rows, read_cases, run_cases, write_cases,
 };
 use sheet_tests::given::{altered, random_given, HOUSE};
 use sheet_tests::line::{line, INPUT_LIMIT};
@@ -15,9 +15,10 @@ use sheet_tests::make::{
 };
 use sheet_tests::model;
 use sheet_tests::plan::Plan;
+use sheet_tests::positions::differing_data_cells;
 use sheet_tests::rng::Rng;
 use sheet_tests::runs::{joined, random_end, whole};
-use sheet_tests::scans::{burst, random_burst, random_data, random_sheet, turned};
+use sheet_tests::scans::{burst, every_sheet, random_burst, random_data, random_sheet, turned};
 use sheet_tests::yardstick;
 
 #[test]
@@ -77,6 +78,37 @@ fn runs_of_rows() {
             let [left, right, both] =
                 [a..b, b..c, a..c].map(|run| model::run_sums(&plan, &sheet, run));
             assert_eq!(joined(left, right), both, "{ends:?}");
+        }
+    }
+}
+
+/// Alterations worked out by hand, each from the light sheet.
+#[test]
+fn worked_alterations() {
+    for (plan, turned_over) in alter_cases() {
+        for (position, expected) in turned_over.into_iter().enumerate() {
+            let mut sheet = vec![0; plan.sheet_len()];
+            let answer = model::alter(&plan.encode(), &mut sheet, position as u32);
+            assert_eq!((answer, sheet), (Answer::default(), expected), "position {position}");
+        }
+    }
+}
+
+/// 02 f), by the bare definitions: of all sheets, an alteration leaves the only one that belongs and
+/// differs, of the cells that are not check cells, in that of the position alone.
+#[test]
+fn one_stitch_altered() {
+    for plan in [plan_s(), plan_t(), plan_two_rows()] {
+        let belongs = |sheet: &Vec<u8>| model::syndrome(&plan, sheet) == 0;
+        let belonging: Vec<_> = every_sheet(&plan).filter(belongs).collect();
+        for sheet in &belonging {
+            for (position, cell) in model::data_cells(&plan).enumerate() {
+                let only = |left: &&Vec<u8>| differing_data_cells(&plan, sheet, left) == [cell];
+                let expected: Vec<_> = belonging.iter().filter(only).collect();
+                let mut left = sheet.clone();
+                let answer = model::alter_accepted(&plan, &mut left, position as u32);
+                assert_eq!((answer, vec![&left]), (Answer::default(), expected));
+            }
         }
     }
 }

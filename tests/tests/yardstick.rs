@@ -4,9 +4,11 @@
 use sheet_tests::damage::{alter_length, damaged, set_unused_of_sheet};
 use sheet_tests::make::{accepted, burst_sizes};
 use sheet_tests::model;
+use sheet_tests::positions::random_position;
 use sheet_tests::rng::Rng;
 use sheet_tests::runs::random_run;
 use sheet_tests::scans::{random_burst, random_data, random_sheet, turned};
+use sheet_tests::tally::Tally;
 use sheet_tests::yardstick;
 
 /// The plan test, writing and reading give the model's answers.
@@ -66,4 +68,38 @@ fn yardstick_of_the_sums_agrees() {
             }
         }
     }
+}
+
+/// So do alterations: good and damaged plans, sheets that belong and others.
+#[test]
+fn yardstick_of_altering_agrees() {
+    let mut rng = Rng::new(19);
+    let mut tally = Tally::default();
+    for (b1, b2) in burst_sizes() {
+        for _ in 0..20 {
+            let plan = accepted(&mut rng, b1, b2, 10);
+            let written = model::write_sheet(&plan, &random_data(&plan, &mut rng));
+            for _ in 0..20 {
+                let bytes = if rng.one_in(4) { damaged(&plan, &mut rng) } else { plan.encode() };
+                let burst = if rng.one_in(4) { random_burst(&plan, &mut rng) } else { vec![] };
+                let mut sheet = turned(&plan, &written, &burst);
+                if rng.one_in(8) {
+                    set_unused_of_sheet(&plan, &mut sheet, &mut rng);
+                }
+                if rng.one_in(8) {
+                    alter_length(&mut sheet, &mut rng);
+                }
+                let (mut left, mut expected) = (sheet.clone(), sheet);
+                let position = random_position(&plan, &mut rng);
+                let answer = model::alter(&bytes, &mut expected, position).pack();
+                assert_eq!(yardstick::plain_alter(&bytes, &mut left, position), answer);
+                assert_eq!(left, expected, "position {position}");
+                tally.count(answer);
+            }
+        }
+    }
+    tally.require(
+        "plain altering",
+        &[(0..=0, 1000), (11..=11, 100), (13..=13, 100), (17..=18, 100)],
+    );
 }

@@ -11,6 +11,7 @@ pub mod Laid
 pub mod Check
 pub mod Fill
 pub mod Written
+pub mod One
 pub mod Report
 pub mod Reader
 pub mod Theorems

@@ -62,7 +62,7 @@ pub fn read_checks(plan: &[u8], sheet: &[u8], bits: &[u8], words: &mut [u64]) ->
 }
 
 // The plan, and that the sheet is of the right form.
-fn form_checks(plan: &[u8], sheet: &[u8], words: &mut [u64]) -> Verdict
+pub fn form_checks(plan: &[u8], sheet: &[u8], words: &mut [u64]) -> Verdict
     requires { ⌜ length (now words) ≡ 2792 ⌝ }
     ensures { λ r. ⌜ Checked (now (plan .entry)) (formChecks (now (plan .entry)) (now (sheet .entry))) r (now (words .exit)) ⌝ }
 {

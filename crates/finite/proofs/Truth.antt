@@ -8,13 +8,13 @@
 --   both, either                    a true conjunction and a true disjunction taken apart
 --   true-or-false                   every value is one or the other, with the equation
 --   clash, never                    no value is both
---   xor-equal, xor-none, xor-light, xor-self, xor-back, xor-comm, xor-assoc   differences of truth values
+--   xor-equal, xor-none, xor-dark, xor-light, xor-self, xor-back, xor-comm, xor-assoc   differences of truth values
 --   both-equal, equal-both                    two equations as one test
 --   within-from, within-to, in-within         the numbers of a run
 --
 -- Assumes nothing.
 use mathlib.Core.Path.{_≡_, refl, sym, _∙_}
-use mathlib.Core.Bool.{Bool, true, false, _&&_, _||_, xor, true≢false}
+use mathlib.Core.Bool.{Bool, true, false, not, _&&_, _||_, xor, true≢false}
 use mathlib.Core.Logic.{_⊎_, inl, inr}
 use Prim.Native.Nat.{ℕ, _+_, _≤_, _<_}
 use lib.Dec.{leb, ltb, eqb}
@@ -102,6 +102,11 @@ pub xor-none : (a : Bool) → xor a false ≡ a
 unfolding xor
 xor-none true = refl
 xor-none false = refl
+
+pub xor-dark : (a : Bool) → xor a true ≡ not a
+unfolding xor
+xor-dark true = refl
+xor-dark false = refl
 
 pub xor-light : (a : Bool) → xor false a ≡ a
 unfolding xor

@@ -125,7 +125,7 @@ module _ (c : Code) (F : Formed c) where
       }
 
   -- the check cells rise, so the first that is not passed tells of all
-  passed-only : (t q : ℕ) → q ≤ c .rv + c .rh → ((k : ℕ) → k < q → checkNumber c k < t) → (q < c .rv + c .rh → t ≤ checkNumber c q)
+  pub passed-only : (t q : ℕ) → q ≤ c .rv + c .rh → ((k : ℕ) → k < q → checkNumber c k < t) → (q < c .rv + c .rh → t ≤ checkNumber c q)
       → q ≡ checksBefore c t
   passed-only t q m before after = go (decLt q (checksBefore c t)) (decLt (checksBefore c t) q) (passed t)
     where

@@ -5,3 +5,4 @@ pub mod Order
 pub mod Stand
 pub mod Run
 pub mod Progress
+pub mod Placed

@@ -2,3 +2,4 @@
 pub mod Packed
 pub mod Walk
 pub mod Transfer
+pub mod Placed

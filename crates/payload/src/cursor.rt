@@ -23,7 +23,7 @@ pub struct Cursor {
 }
 
 // The number of check cell q, or that of all cells where q is past the list.
-fn next_check(plan: &[u8], h: Header, q: usize) -> usize
+pub fn next_check(plan: &[u8], h: Header, q: usize) -> usize
     requires { ⌜ Framed (now plan) h ⌝ }
     requires { ⌜ q ≤ h .rv + h .rh ⌝ }
     ensures { λ r. ⌜ r ≡ nextCheck (codeWith (now (plan .entry)) h) q ⌝ }
@@ -53,7 +53,7 @@ pub fn checks_before(plan: &[u8], h: Header, row: usize, known: usize) -> usize
 }
 
 // The data cells before a row and before the next row, added.
-fn row_ends(plan: &[u8], h: Header, row: usize, check: usize) -> usize
+pub fn row_ends(plan: &[u8], h: Header, row: usize, check: usize) -> usize
     requires { ⌜ Framed (now plan) h ⌝ }
     requires { ⌜ Formed (codeWith (now plan) h) ⌝ }
     requires { ⌜ row ≤ h .n1 ⌝ }

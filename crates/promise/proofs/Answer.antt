@@ -1,6 +1,6 @@
 -- The answers of the calls, taken apart: one declaration for each theorem of specs/Answer.antt, of that type.
 --
---   plan-carries, make-carries, write-carries, read-carries, sums-carries
+--   plan-carries, make-carries, write-carries, read-carries, sums-carries, alter-carries
 --
 -- Assumes nothing.
 use Rattle.answer.proofs.Fields.{packed-carries}
@@ -9,8 +9,9 @@ use Rattle.maker.specs.Make.{make}
 use Rattle.writer.specs.Write.{write}
 use Rattle.reader.specs.Read.{readOutcome}
 use Rattle.runsums.specs.RunSums.{sumRun}
-use Rattle.sheet.specs.Calls.{verdictFields, reportFields, planAnswer, makeCall, writeCall, readCall, sumsCall}
-use Rattle.sheet.proofs.Ranges.{plan-range, make-range, write-range, read-range, sums-range}
+use Rattle.alter.specs.Alter.{alter}
+use Rattle.sheet.specs.Calls.{verdictFields, reportFields, planAnswer, makeCall, writeCall, readCall, sumsCall, alterCall}
+use Rattle.sheet.proofs.Ranges.{plan-range, make-range, write-range, read-range, sums-range, alter-range}
 use Rattle.promise.specs.Answer as promise
 
 pub plan-carries : promise.PlanCarries
@@ -35,3 +36,7 @@ pub sums-carries : promise.SumsCarries
 unfolding sumsCall
 sums-carries plan sheet first past sums =
     packed-carries (verdictFields (sumRun plan sheet first past sums .verdict)) (sums-range plan sheet first past sums)
+
+pub alter-carries : promise.AlterCarries
+unfolding alterCall
+alter-carries plan sheet d = packed-carries (verdictFields (alter plan sheet d .verdict)) (alter-range plan sheet d)

@@ -5,3 +5,4 @@ pub mod Promise
 pub mod Answer
 pub mod House
 pub mod Sums
+pub mod Alter

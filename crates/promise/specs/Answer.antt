@@ -6,6 +6,7 @@
 --   WriteCarries   writing: likewise
 --   ReadCarries    reading: the number, the places and the reader's five numbers
 --   SumsCarries    asking for the sums of a run: the number and the places of its verdict, and five zeros
+--   AlterCarries   altering: likewise
 use Prim.Native.Nat.{ℕ}
 use mathlib.Core.List.{List}
 use Rattle.answer.specs.Answer.{Carries}
@@ -15,7 +16,8 @@ use Rattle.maker.specs.Make.{make}
 use Rattle.writer.specs.Write.{write}
 use Rattle.reader.specs.Read.{readOutcome}
 use Rattle.runsums.specs.RunSums.{sumRun}
-use Rattle.sheet.specs.Calls.{verdictFields, reportFields, planAnswer, makeCall, writeCall, readCall, sumsCall}
+use Rattle.alter.specs.Alter.{alter}
+use Rattle.sheet.specs.Calls.{verdictFields, reportFields, planAnswer, makeCall, writeCall, readCall, sumsCall, alterCall}
 
 abbrev pub PlanCarries : Type 0
 PlanCarries = (plan : List ℕ) → Carries (planAnswer plan) (verdictFields (planVerdict plan))
@@ -34,3 +36,6 @@ ReadCarries = (plan sheet bits : List ℕ)
 abbrev pub SumsCarries : Type 0
 SumsCarries = (plan sheet : List ℕ) (first past : ℕ) (sums : List ℕ)
     → Carries (sumsCall plan sheet first past sums .answer) (verdictFields (sumRun plan sheet first past sums .verdict))
+
+abbrev pub AlterCarries : Type 0
+AlterCarries = (plan sheet : List ℕ) (d : ℕ) → Carries (alterCall plan sheet d .answer) (verdictFields (alter plan sheet d .verdict))

@@ -3,3 +3,4 @@ pub mod Promise
 pub mod Answer
 pub mod House
 pub mod Sums
+pub mod Alter

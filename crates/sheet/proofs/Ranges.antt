@@ -3,8 +3,9 @@
 --   write-fits    number and places of writing
 --   read-fits     number and places of reading
 --   sums-fit      number and places of asking for the sums of a run; forms-fit, those of the checks that a sheet is of the right form
+--   alters-fit    number and places of altering
 --   report-fits   the reader's five numbers
---   plan-range, make-range, write-range, read-range, sums-range   the fields of the answer of each call
+--   plan-range, make-range, write-range, read-range, sums-range, alter-range   the fields of the answer of each call
 --   made-range, made-packed   the answer of either call that makes a plan
 --
 -- Assumes nothing.
@@ -14,16 +15,16 @@ use mathlib.Core.List.{List}
 use Prim.Native.Nat.{ℕ, _<_, _≤_}
 use native.Mathlib.Omega.{arith}
 use borrow.Author.Tests.{eqb-true}
-use lib.Dec.{eqb}
+use lib.Dec.{eqb, leb}
 use lib.ListN.{length}
 use Rattle.layout.specs.Cells.{rowBytes, sheetBytes, firstUnused, cellOf}
 use Rattle.boxcode.specs.Code.{Code, Formed}
-use Rattle.boxcode.specs.Check.{dataSize}
+use Rattle.boxcode.specs.Check.{dataSize, belongs}
 use Rattle.boxcode.specs.Reader.{change, noReport}
 use Rattle.boxcode.proofs.Reader.{mendable, change-burst}
 use Rattle.boxcode.proofs.Report.{burst-report}
 use Rattle.plan.specs.declared.verdict.Verdict.{Verdict}
-use Rattle.plan.specs.Verdict.{refusal, _orElse_}
+use Rattle.plan.specs.Verdict.{refusal, verdictIf, _orElse_}
 use Rattle.plan.specs.Bytes.{codeOf}
 use Rattle.accept.specs.Verdict.{planVerdict}
 use Rattle.accept.proofs.Range.{SmallVerdict, accepted-fits, else-fits, if-fits, at-fits, plan-fits}
@@ -43,13 +44,17 @@ use Rattle.maker.specs.Make.{Made, made, make}
 use Rattle.maker.proofs.Range.{make-fits}
 use Rattle.writer.specs.Write.{write}
 use Rattle.runsums.specs.RunSums.{sumRun}
+use Rattle.alter.specs.Alter.{positionVerdict, belongVerdict, alterChecks, alter}
 use Rattle.answer.specs.Answer.{InRange, packed}
 use Rattle.sheet.specs.Calls.{verdictFields, reportFields, makeReply, makeCall}
 
+-- a refusal with places 0, 0
+told-fits : (t : Bool) (n : ℕ) → n < 32 → SmallVerdict (verdictIf t (refusal n 0 0))
+told-fits t n l = if-fits t (refusal n 0 0) (λ _. record { number-fits = l; p-fits = omega arith; q-fits = omega arith })
+
 length-fits : (n : ℕ) (s : List ℕ) (size : ℕ) → n < 32 → SmallVerdict (lengthVerdict n s size)
 unfolding lengthVerdict
-length-fits n s size l =
-    if-fits (not (eqb (length s) size)) (refusal n 0 0) (λ _. record { number-fits = l; p-fits = omega arith; q-fits = omega arith })
+length-fits n s size = told-fits (not (eqb (length s) size)) n
 
 unused-fits : (n1 n2 : ℕ) (s : List ℕ) → sheetBytes n1 n2 ≤ 45056 → SmallVerdict (unusedVerdict n1 n2 s)
 unfolding unusedVerdict
@@ -104,6 +109,14 @@ pub sums-fit : (plan sheet sums : List ℕ) → SmallVerdict (sumsChecks plan sh
 unfolding sumsChecks
 sums-fit plan sheet sums =
     else-fits (formChecks plan sheet) (sumsLength sums) (forms-fit plan sheet) (λ _. length-fits 24 sums 8 (omega arith))
+
+pub alters-fit : (plan sheet : List ℕ) (d : ℕ) → SmallVerdict (alterChecks plan sheet d)
+unfolding alterChecks positionVerdict belongVerdict
+alters-fit plan sheet d =
+    let k = dataSize (codeOf plan) in
+    else-fits (formChecks plan sheet) _ (forms-fit plan sheet)
+    (λ _. else-fits (positionVerdict k d) _ (told-fits (leb k d) 17 (omega arith))
+    (λ _. told-fits (not (belongs (codeOf plan) (cellOf (codeOf plan .n2) sheet))) 18 (omega arith)))
 
 found-fits : (r : Found) → SmallVerdict (foundVerdict r)
 found-fits (Burst top left x) = accepted-fits
@@ -193,6 +206,10 @@ write-range plan bits sheet = fields-range (writeChecks plan bits sheet) (report
 pub sums-range : (plan sheet : List ℕ) (first past : ℕ) (sums : List ℕ) → InRange (verdictFields (sumRun plan sheet first past sums .verdict))
 unfolding sumRun
 sums-range plan sheet first past sums = fields-range (sumsChecks plan sheet sums) (reportAs noReport) (sums-fit plan sheet sums) none-fits
+
+pub alter-range : (plan sheet : List ℕ) (d : ℕ) → InRange (verdictFields (alter plan sheet d .verdict))
+unfolding alter
+alter-range plan sheet d = fields-range (alterChecks plan sheet d) (reportAs noReport) (alters-fit plan sheet d) none-fits
 
 pub read-range : (plan sheet bits : List ℕ)
     → InRange (reportFields (readOutcome plan sheet bits .verdict) (readOutcome plan sheet bits .report))

@@ -8,6 +8,7 @@
 --   WriteReply, writeCall   the answer of writing, packed, and every byte of the sheet after it
 --   ReadReply, readCall     the answer of reading, packed, and every byte of the sheet and of the data buffer after it
 --   SumsReply, sumsCall     the answer of asking for the sums of a run of rows, packed, and every byte of their buffer after it
+--   AlterReply, alterCall   the answer of altering one data bit, packed, and every byte of the sheet after it
 use Prim.Native.Nat.{ℕ}
 use mathlib.Core.List.{List}
 use Rattle.answer.specs.Answer.{Fields, placesFields, packed}
@@ -19,6 +20,7 @@ use Rattle.maker.specs.Make.{make}
 use Rattle.writer.specs.Write.{write}
 use Rattle.reader.specs.Read.{readOutcome}
 use Rattle.runsums.specs.RunSums.{sumRun}
+use Rattle.alter.specs.Alter.{alter}
 
 abbrev pub verdictFields : Verdict → Fields
 verdictFields v = placesFields (v .number) (v .p) (v .q)
@@ -78,6 +80,15 @@ sumsCall plan sheet first past sums =
     let o = sumRun plan sheet first past sums in
     record { answer = packed (verdictFields (o .verdict)); sums = o .sums }
 
+pub record AlterReply : Type 0 where
+  pub answer : ℕ
+  pub sheet : List ℕ
+
+unfoldable pub alterCall : List ℕ → List ℕ → ℕ → AlterReply
+alterCall plan sheet d =
+    let o = alter plan sheet d in
+    record { answer = packed (verdictFields (o .verdict)); sheet = o .sheet }
+
 -- an answer with the buffers after it
 abbrev pub makeReply : ℕ → List ℕ → MakeReply
 makeReply a s = record { answer = a; plan = s }
@@ -90,3 +101,6 @@ readReply a s b = record { answer = a; sheet = s; bits = b }
 
 abbrev pub sumsReply : ℕ → List ℕ → SumsReply
 sumsReply a s = record { answer = a; sums = s }
+
+abbrev pub alterReply : ℕ → List ℕ → AlterReply
+alterReply a s = record { answer = a; sheet = s }

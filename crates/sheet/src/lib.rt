@@ -2,8 +2,10 @@
 // A call that turns something back changes no byte of any buffer. The data buffer is called bits here.
 ghost use mathlib.Core.Path.{_≡_};
 ghost use Rattle.houseplan.specs.HousePlan.{houseParameters};
-ghost use Rattle.sheet.specs.Calls.{planAnswer, parameters, makeReply, makeCall, writeReply, writeCall, readReply, readCall, sumsReply, sumsCall};
+ghost use Rattle.sheet.specs.Calls.{planAnswer, parameters, makeReply, makeCall, writeReply, writeCall, readReply, readCall};
+ghost use Rattle.sheet.specs.Calls.{sumsReply, sumsCall, alterReply, alterCall};
 use accept::test::test;
+use alter::altering::alter;
 use answer::Answer;
 use answer::pack;
 use answer::pack_places;
@@ -104,4 +106,13 @@ pub extern "C" fn sheet_sums(
 {
     let summed = sum_run(plan, sheet, first as usize, past as usize, sums);
     pack_places(summed.number, summed.p, summed.q)
+}
+
+// Turns one data bit of a sheet over, and brings the check cells up to date: the sheet is then as written afresh from the altered data.
+#[no_mangle]
+pub extern "C" fn sheet_alter(plan: &[u8], sheet: &mut [u8], position: u32) -> u64
+    ensures { λ r. ⌜ alterReply r (now (sheet .exit)) ≡ alterCall (now (plan .entry)) (now (sheet .entry)) position ⌝ }
+{
+    let altered = alter(plan, sheet, position as usize);
+    pack_places(altered.number, altered.p, altered.q)
 }

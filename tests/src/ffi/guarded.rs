@@ -2,7 +2,7 @@
 
 use std::ops::Range;
 
-use super::{house_plan, plan_make, sums, Archive, SHEET};
+use super::{alter, house_plan, plan_make, sums, Archive, SHEET};
 use crate::answer::Answer;
 use crate::given::Given;
 use crate::rng::Rng;
@@ -83,6 +83,16 @@ impl Library {
         plan.assert_unchanged();
         sheet.assert_unchanged();
         target.hand_back(answer, into);
+        answer
+    }
+
+    pub fn alter(&mut self, plan: &[u8], sheet: &mut [u8], position: u32) -> u64 {
+        let plan = Guarded::new("plan", plan, &mut self.rng);
+        let mut target = Guarded::new("sheet", sheet, &mut self.rng);
+        let null = self.rng.one_in(2);
+        let answer = alter(plan.content(), target.content_mut(), position, null);
+        plan.assert_unchanged();
+        target.hand_back(answer, sheet);
         answer
     }
 }

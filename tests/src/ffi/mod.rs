@@ -1,8 +1,10 @@
 //! The calls of libsheet.a: bare, and on guarded buffers.
 
+mod alter;
 mod guarded;
 mod sums;
 
+pub use alter::{alter, alter_by_register};
 pub use guarded::Library;
 pub use sums::{sums, sums_by_registers};
 

@@ -1,7 +1,7 @@
 //! The checks of the buffers that are lent beside the plan, and for each call those that it makes, in
 //! order.
 
-use super::sheet::unused_bits;
+use super::sheet::{syndrome, unused_bits};
 use crate::answer::Answer;
 use crate::plan::Plan;
 
@@ -24,6 +24,24 @@ pub fn check_summing(plan: &Plan, sheet: &[u8], sums: &[u8]) -> Result<(), Answe
     sheet_length(plan, sheet)?;
     unused_of_sheet(plan, sheet)?;
     sums_length(sums)
+}
+
+/// Altering: checks 11, 13, 17 and 18.
+pub fn check_altering(plan: &Plan, sheet: &[u8], position: u32) -> Result<(), Answer> {
+    check_altering_by(plan, sheet, position, syndrome)
+}
+
+/// `check_altering` with another way to sum the sheet (see `yardstick`).
+pub fn check_altering_by(
+    plan: &Plan,
+    sheet: &[u8],
+    position: u32,
+    sums: impl Fn(&Plan, &[u8]) -> u64,
+) -> Result<(), Answer> {
+    sheet_length(plan, sheet)?;
+    unused_of_sheet(plan, sheet)?;
+    position_of_data(plan, position)?;
+    belonging(sums(plan, sheet))
 }
 
 /// Check 11.
@@ -49,6 +67,16 @@ fn unused_of_sheet(plan: &Plan, sheet: &[u8]) -> Result<(), Answer> {
     let mut row_ends = (0..plan.n1).map(|row| (row + 1) * plan.row_len() - 1);
     let byte = row_ends.find(|&byte| sheet[byte] & unused != 0);
     Answer::refuse_at(byte.map(|byte| (byte, 0)), 13)
+}
+
+/// Check 17.
+fn position_of_data(plan: &Plan, position: u32) -> Result<(), Answer> {
+    Answer::refuse_if(position as usize >= plan.data_bits(), 17)
+}
+
+/// Check 18 of a sheet with these two sums, as one number.
+fn belonging(sums: u64) -> Result<(), Answer> {
+    Answer::refuse_if(sums != 0, 18)
 }
 
 /// Check 24.

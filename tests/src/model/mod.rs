@@ -1,8 +1,9 @@
-//! The six calls, by the words of documents 01 and 02 (requests a, c, d and e) and with no eye to speed
-//! beyond what full-size sheets ask for.
+//! The seven calls, by the words of documents 01 and 02 (requests a, c, d, e and f) and with no eye to
+//! speed beyond what full-size sheets ask for.
 
 mod accept;
 mod algebra;
+mod alter;
 mod buffers;
 mod maker;
 mod mend;
@@ -11,15 +12,16 @@ mod sheet;
 
 pub use accept::{accept, accept_by, strip_members, test_plan, window_entries};
 pub use algebra::{independent, solve, Span};
-pub use buffers::check_summing;
+pub use alter::{altered_data, altered_sheet};
+pub use buffers::{check_altering_by, check_summing};
 pub use maker::{made_plan, power};
 pub use mend::{burst_by_search, burst_by_trial, smallest_rectangle};
 pub use run::{run_sums, Sums};
-pub use sheet::{data_of, syndrome, turn_over, unused_bits, write_sheet, Cell};
+pub use sheet::{cell, data_cells, data_of, syndrome, turn_over, unused_bits, write_sheet, Cell};
 
 use std::ops::Range;
 
-use buffers::{check_reading, check_writing};
+use buffers::{check_altering, check_reading, check_writing};
 
 use crate::answer::Answer;
 use crate::given::{Given, HOUSE};
@@ -98,5 +100,22 @@ pub fn sums_accepted(plan: &Plan, sheet: &[u8], run: Range<u32>, sums: &mut [u8]
     let (v, h) = run_sums(plan, sheet, run);
     sums[..4].copy_from_slice(&v.to_le_bytes());
     sums[4..].copy_from_slice(&h.to_le_bytes());
+    Answer::default()
+}
+
+/// Alter one data bit of a sheet that belongs to its plan. A refusal changes nothing.
+pub fn alter(plan: &[u8], sheet: &mut [u8], position: u32) -> Answer {
+    match accept(plan) {
+        Ok(plan) => alter_accepted(&plan, sheet, position),
+        Err(refusal) => refusal,
+    }
+}
+
+/// `alter` under a plan that is known to be accepted: checks 11, 13, 17 and 18.
+pub fn alter_accepted(plan: &Plan, sheet: &mut [u8], position: u32) -> Answer {
+    if let Err(refusal) = check_altering(plan, sheet, position) {
+        return refusal;
+    }
+    sheet.copy_from_slice(&altered_sheet(plan, sheet, position));
     Answer::default()
 }

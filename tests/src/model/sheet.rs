@@ -38,7 +38,7 @@ pub fn syndrome(plan: &Plan, sheet: &[u8]) -> u64 {
 
 /// Where the data lies: the cells that are not check cells, row by row. In even rows it runs from
 /// column 0 up, in odd rows from the highest column down. The check list is in sheet order.
-fn data_cells(plan: &Plan) -> impl Iterator<Item = Cell> + '_ {
+pub fn data_cells(plan: &Plan) -> impl Iterator<Item = Cell> + '_ {
     let column = |i, place| if i % 2 == 1 { plan.n2 - 1 - place } else { place };
     let cells =
         (0..plan.n1).flat_map(move |i| (0..plan.n2).map(move |place| (i, column(i, place))));

@@ -1,11 +1,13 @@
 //! What the library's speed is measured against: the same work in Rust, for the timings of bin
 //! bench alone. The tests compare it with the model.
 
+mod alter;
 mod best;
 mod maker;
 mod plain;
 mod sheets;
 
+pub use alter::alter_accepted;
 pub use sheets::{read_accepted, sum_accepted, write_accepted};
 
 use std::ops::Range;
@@ -45,6 +47,13 @@ pub fn one_row_plan_make(given: &Given, plan: &mut [u8]) -> u64 {
 pub fn plain_sums(plan: &[u8], sheet: &[u8], run: Range<u32>, into: &mut [u8]) -> u64 {
     let plan = accept_by(plan, plain::windows, plain::strips);
     told(plan.and_then(|plan| sum_accepted(&plan, sheet, run, into)))
+}
+
+/// Altering one data bit in plain Rust, in the library's way: the plain plan test, the checks of the sheet,
+/// and the cells that one alteration turns over.
+pub fn plain_alter(plan: &[u8], sheet: &mut [u8], position: u32) -> u64 {
+    let plan = accept_by(plan, plain::windows, plain::strips);
+    told(plan.and_then(|plan| alter_accepted(&plan, sheet, position)))
 }
 
 fn told<T>(outcome: Result<T, Answer>) -> u64 {

@@ -6,6 +6,7 @@
 //! Tables are of two kinds: of powers, each entry z times the one before, which the plan test may
 //! know by their look; and of the same entries in another order, where it has to test all pairs.
 
+mod alter;
 #[cfg(feature = "before")]
 mod before;
 mod making;
@@ -26,6 +27,7 @@ fn main() {
     plan_test::plan_test();
     sheets::write_and_read();
     runs::runs();
+    alter::alterations();
     #[cfg(feature = "before")]
     before::beside();
 }
