@@ -23,22 +23,11 @@ use Rattle.finite.specs.Search.{bit}
 use Rattle.finite.proofs.Truth.{Truth, is-true, is-false, true-or-false, xor-none, in-within}
 use Rattle.layout.specs.Cells.{RightForm, cellOf, bytesOf, turnedIf}
 use Rattle.layout.proofs.Form.{same-bytes, bytes-form, bytes-cell}
-use Rattle.layout.proofs.Turned.{turned-form, turned-cell, turned-if-length}
+use Rattle.layout.proofs.Turned.{turned-if-form, turned-if-cell, turned-if-length}
 use Rattle.boxcode.specs.Syndrome.{Cells, flip}
 use Rattle.boxcode.specs.Burst.{boxCells}
 use Rattle.boxcode.proofs.Trial.{box-inside}
 use Rattle.reader.specs.Turn.{Rectangle, digitsTurned, boxTurned}
-
--- ---- one cell, if it is asked for
-
-module _ (n1 n2 : ℕ) (s : List ℕ) (f : RightForm n1 n2 s) (i j : ℕ) (li : i < n1) (lj : j < n2) where
-  if-form : (b : Bool) → RightForm n1 n2 (turnedIf b n2 s i j)
-  if-form true = turned-form n1 n2 s f i j li lj
-  if-form false = f
-
-  if-cell : (b : Bool) (a d : ℕ) → a < n1 → d < n2 → cellOf n2 (turnedIf b n2 s i j) a d ≡ xor (cellOf n2 s a d) (b && (eqb i a && eqb j d))
-  if-cell true a d la ld = turned-cell n1 n2 s f i j li lj a d la ld
-  if-cell false a d la ld = sym (xor-none (cellOf n2 s a d))
 
 -- ---- the cell of a digit
 
@@ -186,14 +175,14 @@ module _ (top left b1 b2 x : ℕ) (pos : 1 ≤ b2) where
     unfolding digitsTurned
     digits-form zero l = f
     digits-form (suc k) l =
-        if-form n1 n2 (digitsTurned n2 s top left b2 x k) (digits-form k (omega arith)) (top + k / b2) (left + k % b2)
+        turned-if-form n1 n2 (digitsTurned n2 s top left b2 x k) (digits-form k (omega arith)) (top + k / b2) (left + k % b2)
         (digit-row n1 n2 top left b1 b2 pos R k l) (digit-column n1 n2 top left b1 b2 pos R k) (bit x k)
 
     digits-cell : (n : ℕ) → n ≤ b1 * b2 → (a d : ℕ) → a < n1 → d < n2 → cellOf n2 (digitsTurned n2 s top left b2 x n) a d ≡ xor (cellOf n2 s a d) (first n a d)
     unfolding digitsTurned
     digits-cell zero l a d la ld = sym (xor-none (cellOf n2 s a d)) ∙ ap (xor (cellOf n2 s a d)) (sym (none a d))
     digits-cell (suc k) l a d la ld =
-        if-cell n1 n2 (digitsTurned n2 s top left b2 x k) (digits-form k (omega arith)) (top + k / b2) (left + k % b2)
+        turned-if-cell n1 n2 (digitsTurned n2 s top left b2 x k) (digits-form k (omega arith)) (top + k / b2) (left + k % b2)
         (digit-row n1 n2 top left b1 b2 pos R k l) (digit-column n1 n2 top left b1 b2 pos R k) (bit x k) a d la ld
         ∙ ap (λ (y : Bool). xor y (bit x k && (eqb (top + k / b2) a && eqb (left + k % b2) d))) (digits-cell k (omega arith) a d la ld)
         ∙ step k l (cellOf n2 s a d) a d
