@@ -10,15 +10,16 @@
 --   next-ahead            it does not come before t
 --   next-kept, next-free  up to it no check cell is passed, and none stands
 --   next-left, next-check, next-passed   where it is on the sheet: the list has it, it is one, and one more is passed past it
---   UpTo c i q            the first q check cells stand before row i
---   up-to-first, up-to-next, up-to-last   such a number, one more, and all of them
+--   UpTo c t q            the first q check cells stand before number t
+--   up-to-none, up-to-first, up-to-next   none do; such a number; one more
+--   up-to-last, up-to-end                 all of them: the next stands at t or after it, or there is no next
 --   checks-rise           the check cells before a row are no more than those before the next
 --
 -- Assumes nothing.
 use mathlib.Core.Path.{_≡_, refl, sym, ap, _∙_}
 use mathlib.Core.Bool.{Bool, true, false, cond}
 use Prim.Native.Nat.{ℕ, zero, suc, _+_, _-_, _*_, _≤_, _<_}
-use native.Mathlib.Nat.{zero-mul, mul-le-mul-right}
+use native.Mathlib.Nat.{zero-mul}
 use native.Mathlib.Numerals.{add-one}
 use native.Mathlib.Decide.{ℕ-discrete, decLt}
 use native.Mathlib.Omega.{arith}
@@ -26,7 +27,7 @@ use borrow.Author.Tests.{lt-ltb, le-ltb}
 use Rattle.finite.specs.Search.{countBelow}
 use Rattle.finite.proofs.Truth.{clash, not-true}
 use Rattle.finite.proofs.Count.{count-not, count-split}
-use Rattle.boxcode.specs.Code.{Code, Formed, cellNumber}
+use Rattle.boxcode.specs.Code.{Code, Formed}
 use Rattle.boxcode.specs.Check.{checkNumber, checkAt}
 use Rattle.boxcode.proofs.Check.{sheet-cells, check-rise, check-here, check-found}
 use Rattle.payload.specs.Walk.{checksBefore, dataBefore, nextCheck, rowEnds}
@@ -189,35 +190,29 @@ module _ (c : Code) (F : Formed c) where
         ap (λ (x : ℕ). x + 1) p ∙ ap (λ (b : Bool). checksBefore c u + cond b 1 0) (sym next-check)
         ∙ sym (ap (λ (n : ℕ). countBelow n (checkAt c)) (add-one u))
 
--- ---- row by row
+-- ---- check cell by check cell
 
--- the first q check cells stand before this row
-pub record UpTo (c : Code) (row q : ℕ) : Type 0 where
+-- the first q check cells stand before number t
+pub record UpTo (c : Code) (t q : ℕ) : Type 0 where
   pub most : q ≤ c .rv + c .rh
-  pub before : (k : ℕ) → k < q → checkNumber c k < row * c .n2
+  pub before : (k : ℕ) → k < q → checkNumber c k < t
 
-module _ (c : Code) (F : Formed c) (row q : ℕ) where
-  pub up-to-first : q ≤ checksBefore c (row * c .n2) → UpTo c row q
-  up-to-first l =
-      let P = passed c F (row * c .n2) in
-      record { most = omega (arith, P .most); before = λ k lk. P .before k (omega arith) }
+pub up-to-none : (c : Code) (t : ℕ) → UpTo c t 0
+up-to-none c t = record { most = omega arith; before = λ k l. absurd (omega arith) }
 
-  pub up-to-next : UpTo c row q → q < c .rv + c .rh → c .checkRow q < row → UpTo c row (q + 1)
-  unfolding checkNumber cellNumber
-  up-to-next U l h = record { most = omega arith; before = λ k lk. go k lk (ℕ-discrete k q) }
-    where
-      here : checkNumber c q < row * c .n2
-      here =
-          let m : (c .checkRow q + 1) * c .n2 ≤ row * c .n2 = mul-le-mul-right (c .n2) (omega arith) in
-          let n = rows-next (c .checkRow q) (c .n2) in
-          omega (arith, F .check-columns q l)
+pub up-to-next : (c : Code) (t u q next : ℕ) → UpTo c t q → q < c .rv + c .rh → next ≡ nextCheck c q → next < u → t ≤ u → UpTo c u (q + 1)
+up-to-next c t u q next U l e h m = record { most = omega arith; before = λ k lk. go k lk (ℕ-discrete k q) }
+  where
+    go : (k : ℕ) → k < q + 1 → Dec (k ≡ q) → checkNumber c k < u
+    go k lk (yes s) = let n = next-here c q l in let g : checkNumber c k ≡ checkNumber c q = ap (checkNumber c) s in omega arith
+    go k lk (no s) = let b : checkNumber c k < t = U .before k (omega arith) in omega arith
 
-      go : (k : ℕ) → k < q + 1 → Dec (k ≡ q) → checkNumber c k < row * c .n2
-      go k lk (yes e) = rw e here
-      go k lk (no e) = U .before k (omega arith)
+module _ (c : Code) (F : Formed c) (t q : ℕ) where
+  pub up-to-first : q ≤ checksBefore c t → UpTo c t q
+  up-to-first l = let P = passed c F t in record { most = omega (arith, P .most); before = λ k lk. P .before k (omega arith) }
 
-  pub up-to-last : UpTo c row q → (q < c .rv + c .rh → row ≤ c .checkRow q) → q ≡ checksBefore c (row * c .n2)
-  unfolding checkNumber cellNumber
-  up-to-last U after =
-      passed-only c F (row * c .n2) q (U .most) (U .before)
-      (λ l. let m : row * c .n2 ≤ c .checkRow q * c .n2 = mul-le-mul-right (c .n2) (after l) in omega arith)
+  pub up-to-last : (next : ℕ) → UpTo c t q → next ≡ nextCheck c q → t ≤ next → q ≡ checksBefore c t
+  up-to-last next U e h = passed-only c F t q (U .most) (U .before) (λ l. let n = next-here c q l in omega arith)
+
+  pub up-to-end : UpTo c t q → c .rv + c .rh ≤ q → q ≡ checksBefore c t
+  up-to-end U h = passed-only c F t q (U .most) (U .before) (λ l. absurd (omega arith))

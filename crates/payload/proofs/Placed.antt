@@ -1,7 +1,5 @@
 -- Where a data bit stands:
 --
---   Beyond c n q       the first q check cells stand before number n + q
---   beyond-first, beyond-next   none do; one more, which stands at n + q or before
 --   count-most         the data cells are few
 --   follows-here, follows-past  so n + q is the data cell that has n before it, where no further check cell stands at it or before
 --   data-all           the data cells of the sheet
@@ -15,33 +13,18 @@ use mathlib.Core.Path.{_≡_, refl, sym, ap, _∙_}
 use mathlib.Core.Bool.{Bool, true, false, cond, not}
 use Prim.Native.Nat.{ℕ, _+_, _-_, _*_, _/_, _%_, _≤_, _<_}
 use native.Mathlib.Nat.{mul-le-mul-right, div-add-mod'}
-use native.Mathlib.Decide.{ℕ-discrete, decLt}
+use native.Mathlib.Decide.{decLt}
 use native.Mathlib.Omega.{arith}
 use lib.Arith.{digits-div}
 use Rattle.finite.proofs.Count.{count-split, count-rise}
 use Rattle.boxcode.specs.Code.{Code, Formed}
-use Rattle.boxcode.specs.Check.{checkNumber, checkAt, runsDown, dataOrder, dataSize, rank, dataCell}
+use Rattle.boxcode.specs.Check.{checkAt, runsDown, dataOrder, dataSize, rank, dataCell}
 use Rattle.boxcode.proofs.Check.{sheet-cells, row-inside, column-inside, check-listed, rank-data}
 use Rattle.payload.specs.Walk.{checksBefore, dataBefore, nextCheck, rowEnds, dataBit}
 use Rattle.payload.specs.Placed.{Follows, Holds}
 use Rattle.payload.proofs.Size.{rows-next}
-use Rattle.payload.proofs.Before.{both-before, passed-only, next-here, next-past, next-free}
+use Rattle.payload.proofs.Before.{UpTo, both-before, passed-only, next-past, next-free, up-to-last}
 use Rattle.payload.proofs.Order.{rank-up, rank-down}
-
-pub record Beyond (c : Code) (n q : ℕ) : Type 0 where
-  pub most : q ≤ c .rv + c .rh
-  pub before : (k : ℕ) → k < q → checkNumber c k < n + q
-
-module _ (c : Code) (n : ℕ) where
-  pub beyond-first : Beyond c n 0
-  beyond-first = record { most = omega arith; before = λ k l. absurd (omega arith) }
-
-  pub beyond-next : (q next : ℕ) → Beyond c n q → q < c .rv + c .rh → next ≡ nextCheck c q → next ≤ n + q → Beyond c n (q + 1)
-  beyond-next q next B l e m = record { most = omega arith; before = λ k lk. go k lk (ℕ-discrete k q) }
-    where
-      go : (k : ℕ) → k < q + 1 → Dec (k ≡ q) → checkNumber c k < n + (q + 1)
-      go k lk (yes s) = let h = next-here c q l in let g : checkNumber c k ≡ checkNumber c q = ap (checkNumber c) s in omega arith
-      go k lk (no s) = let b : checkNumber c k < n + q = B .before k (omega arith) in omega arith
 
 module _ (c : Code) (F : Formed c) where
   module _ (n : ℕ) (l : n < dataSize c) where
@@ -49,19 +32,19 @@ module _ (c : Code) (F : Formed c) where
     unfolding dataSize
     count-most = omega (arith, sheet-cells (F .n1-most) (F .n2-most))
 
-    pub follows-here : (q next : ℕ) → Beyond c n q → next ≡ nextCheck c q → n + q < next → Follows c n (n + q)
+    pub follows-here : (q next : ℕ) → UpTo c (n + q) q → next ≡ nextCheck c q → n + q < next → Follows c n (n + q)
     unfolding dataSize
-    follows-here q next B e m =
-        let p : q ≡ checksBefore c (n + q) = passed-only c F (n + q) q (B .most) (B .before) (λ h. let w = next-here c q h in omega arith) in
+    follows-here q next U e m =
+        let p : q ≡ checksBefore c (n + q) = up-to-last c F (n + q) q next U e (omega arith) in
         record {
-          on = omega (arith, B .most);
+          on = omega (arith, U .most);
           free = next-free c F (n + q) q p (n + q) (omega arith) (omega arith);
           before = omega (arith, both-before c (n + q));
         }
 
-    pub follows-past : (q : ℕ) → Beyond c n q → c .rv + c .rh ≤ q → Follows c n (n + q)
+    pub follows-past : (q : ℕ) → UpTo c (n + q) q → c .rv + c .rh ≤ q → Follows c n (n + q)
     unfolding dataSize
-    follows-past q B h = follows-here q (c .n1 * c .n2) B (sym (next-past c q h)) (omega (arith, B .most))
+    follows-past q U h = follows-here q (c .n1 * c .n2) U (sym (next-past c q h)) (omega (arith, U .most))
 
   -- ---- the data cells before a row
 

@@ -35,16 +35,16 @@ pub fn next_check(plan: &[u8], h: Header, q: usize) -> usize
     cell.row * h.n2 + cell.column
 }
 
-// The check cells before a row, where so many of them are known.
-pub fn checks_before(plan: &[u8], h: Header, row: usize, known: usize) -> usize
+// The check cells before number t in sheet order, where so many of them are known.
+pub fn checks_before(plan: &[u8], h: Header, t: usize, known: usize) -> usize
     requires { ⌜ Framed (now plan) h ⌝ }
     requires { ⌜ Formed (codeWith (now plan) h) ⌝ }
-    requires { ⌜ known ≤ checksBefore (codeWith (now plan) h) (row * h .n2) ⌝ }
-    ensures { λ r. ⌜ r ≡ checksBefore (codeWith (now (plan .entry)) h) (row * h .n2) ⌝ }
+    requires { ⌜ known ≤ checksBefore (codeWith (now plan) h) t ⌝ }
+    ensures { λ r. ⌜ r ≡ checksBefore (codeWith (now (plan .entry)) h) t ⌝ }
 {
     let mut q = known;
     while q < h.rv + h.rh {
-        if row <= check_cell(plan, h, q).row {
+        if t <= next_check(plan, h, q) {
             return q;
         }
         q += 1;
@@ -60,9 +60,9 @@ pub fn row_ends(plan: &[u8], h: Header, row: usize, check: usize) -> usize
     requires { ⌜ check ≡ checksBefore (codeWith (now plan) h) (row * h .n2) ⌝ }
     ensures { λ r. ⌜ r ≡ rowEnds (codeWith (now (plan .entry)) h) row ⌝ }
 {
-    let next = row + 1;
+    let next = (row + 1) * h.n2;
     let past = checks_before(plan, h, next, check);
-    (row * h.n2 - check) + (next * h.n2 - past)
+    (row * h.n2 - check) + (next - past)
 }
 
 // At the first cell.

@@ -39,7 +39,7 @@ pub fn data_cell(plan: &[u8], h: Header, d: usize) -> Cell
     ensures { λ r. ⌜ Holds (codeWith (now (plan .entry)) h) d r ⌝ }
 {
     let row = data_after(plan, h, d) / h.n2;
-    let check = checks_before(plan, h, row, 0);
+    let check = checks_before(plan, h, row * h.n2, 0);
     let place = bit(row, d, row_ends(plan, h, row, check));
     let column = data_after(plan, h, place) % h.n2;
     Cell { row, column }

@@ -2,19 +2,20 @@
 use Prim.Native.Nat.{_+_, _-_}
 use native.Mathlib.Omega.{arith}
 use Rattle.plan.specs.Bytes.{codeWith}
-use Rattle.payload.proofs.Placed.{Beyond, count-most, beyond-first, beyond-next, follows-here, follows-past}
+use Rattle.payload.proofs.Before.{UpTo, up-to-none, up-to-next}
+use Rattle.payload.proofs.Placed.{count-most, follows-here, follows-past}
 use borrow.Author.Needs.{needs}
 use Rattle.payload.proofs.find.data_after.Statement.{statement}
 use Rattle.payload.proofs.find.data_after.Tie as tie
 
 abbrev Inv-loop : tie.InvT-loop
-Inv-loop plan h count q₀ q = Beyond (codeWith plan h) count q
+Inv-loop plan h count q₀ q = UpTo (codeWith plan h) (count + q) q
 
 abbrev μ-loop : tie.MeasureT-loop
 μ-loop plan h count q₀ q = h .rv + h .rh - q
 
 loop-holds : tie.Need-loop-holds Inv-loop μ-loop
-loop-holds c = beyond-first _ _
+loop-holds c = up-to-none _ _
 
 add-if1 : tie.Need-add-if1 Inv-loop μ-loop
 add-if1 c = search needs
@@ -43,7 +44,7 @@ loop-less c = search needs
 loop-again : tie.Need-loop-again Inv-loop μ-loop
 loop-again c =
     let l = c .before .before .before .before in
-    beyond-next _ _ _ _ (l .loop .inv) (omega arith) (c .before .next-check .ensures) (omega arith)
+    up-to-next _ _ _ _ _ (l .loop .inv) (omega arith) (c .before .next-check .ensures) (omega arith) (omega arith)
 
 add-result : tie.Need-add-result Inv-loop μ-loop
 add-result c =

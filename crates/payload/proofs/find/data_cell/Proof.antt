@@ -1,7 +1,9 @@
 -- `payload::find::data_cell` meets its contract: the cell is found from its row and the ends of the row's bits. Assumes nothing.
+use Prim.Native.Nat.{_/_}
 use native.Mathlib.Omega.{arith}
 use Rattle.plan.specs.Bytes.{codeWith}
 use Rattle.payload.specs.Placed.{Follows}
+use Rattle.payload.proofs.Size.{pair-most}
 use Rattle.payload.proofs.Placed.{row-on, bit-room, bit-below, holds-at}
 use borrow.Author.Needs.{needs}
 use Rattle.payload.proofs.find.data_cell.Statement.{statement}
@@ -13,24 +15,32 @@ data-after-requires c κs = search needs
 div-row : tie.Need-div-row
 div-row c = search needs
 
+mul-checks-before : tie.Need-mul-checks-before
+mul-checks-before c =
+    let a = c .before .before in
+    let s = a .before .before in
+    let m = s .pre .0 .small in
+    let l = row-on _ (s .pre .1 .0) _ _ (a .data-after .ensures) in
+    omega (arith, pair-most _ m (a .data-after .result / s .args .h .n2) (omega arith))
+
 checks-before-requires : tie.Need-checks-before-requires
 checks-before-requires c κs = search needs
 
 row-ends-requires : tie.Need-row-ends-requires
 row-ends-requires c κs =
-    let a = c .before .before in
+    let a = c .before .before .before in
     let p = a .before .before .pre in
     let l = row-on _ (p .1 .0) _ _ (a .data-after .ensures) in
     (p .0, (p .1 .0, (omega arith, c .checks-before .ensures)))
 
 bit-requires : tie.Need-bit-requires
 bit-requires c κs =
-    let a = c .before .before .before in
+    let a = c .before .before .before .before in
     rw (c .row-ends .ensures) (bit-room _ (a .before .before .pre .1 .0) _ _ (a .data-after .ensures))
 
 data-after-requires-2 : tie.Need-data-after-requires-2
 data-after-requires-2 c κs =
-    let a = c .before .before .before .before in
+    let a = c .before .before .before .before .before in
     let p = a .before .before .pre in
     let e = rw (c .before .row-ends .ensures) at (c .bit .ensures) in
     (p .0, (p .1 .0, omega (arith, e, p .1 .1, bit-below _ (p .1 .0) _ _ (a .data-after .ensures))))
@@ -42,7 +52,7 @@ returns : tie.Need-returns
 returns c =
     let t = c .before in
     let b = t .before in
-    let a = b .before .before .before .before in
+    let a = b .before .before .before .before .before in
     let s = a .before .before in
     let S : Follows (codeWith (s .args .plan .now) (s .args .h)) (b .bit .result) (t .data-after2 .result) = t .data-after2 .ensures in
     holds-at _ (s .pre .1 .0) _ _ (a .data-after .ensures) _ (rw (b .bit .ensures, b .before .row-ends .ensures) at S)
@@ -53,6 +63,7 @@ data-cell-spec =
     (tie.spec
     data-after-requires
     div-row
+    mul-checks-before
     checks-before-requires
     row-ends-requires
     bit-requires
