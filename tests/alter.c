@@ -4,25 +4,10 @@
  * handed over in; and sheets of the house plan beside such as are written afresh.
  */
 #include "expect.h"
+#include "plans.h"
 #include "sheet.h"
 
 #include <string.h>
-
-/* Plan T of document 01: two rows of four cells, bursts of one row and two columns. */
-static const uint8_t plan_t[] = {
-    2, 0, 4, 0, 1, 0, 2, 0, 4, 0, 2, 0, 20, 0, 36, 0, 52, 0, 76, 0,         /* header */
-    1, 0, 0, 0, 2, 0, 0, 0, 4, 0, 0, 0, 8, 0, 0, 0,                         /* V */
-    0, 0, 0, 0, 0, 0, 0, 0, 1, 0, 0, 0, 2, 0, 0, 0,                         /* H */
-    0, 0, 0, 0, 0, 0, 1, 0, 0, 0, 2, 0, 0, 0, 3, 0, 1, 0, 0, 0, 1, 0, 1, 0, /* check list */
-};
-
-/* Plan S of document 01: three rows of three cells, k is 5. */
-static const uint8_t plan_s[] = {
-    3, 0, 3, 0, 1, 0, 1, 0, 2, 0, 2, 0, 20, 0, 32, 0, 44, 0, 60, 0, /* header */
-    1, 0, 0, 0, 2, 0, 0, 0, 3, 0, 0, 0,                             /* V */
-    0, 0, 0, 0, 1, 0, 0, 0, 2, 0, 0, 0,                             /* H */
-    0, 0, 0, 0, 0, 0, 1, 0, 0, 0, 2, 0, 1, 0, 0, 0,                 /* check list */
-};
 
 /* The sheet of T with these rows, altered, has these others. */
 static void alters(uint8_t row0, uint8_t row1, uint32_t position, uint8_t altered0, uint8_t altered1) {
@@ -46,48 +31,20 @@ static void by_hand(void) {
     alters(0x0f, 0x0f, 1, 0x0a, 0x0a);
 }
 
-typedef struct {
-    unsigned number, p, q;
-} refusal;
-
 /* A sheet that is turned back, with this number and places; it keeps its bytes. */
 static void turned_back(const uint8_t *plan, size_t plan_len, const char *sheet, size_t sheet_len, uint32_t position,
                         refusal r) {
     uint8_t *lent_sheet = lent(sheet_len);
-    uint64_t told = r.number | (uint64_t)r.p << 5 | (uint64_t)r.q << 21;
     memcpy(lent_sheet, sheet, sheet_len);
-    expect("turned back", sheet_alter(plan, plan_len, lent_sheet, sheet_len, position) == told);
+    expect("turned back", sheet_alter(plan, plan_len, lent_sheet, sheet_len, position) == told(r));
     expect("a refusal changes nothing", memcmp(lent_sheet, sheet, sheet_len) == 0);
     free(lent_sheet);
 }
 
-/* S with one byte altered is turned back, whatever else is wrong: the sheet too long, the position past the data. */
-static void plan_turned_back(size_t at, uint8_t byte, refusal r) {
-    uint8_t *plan = lent(sizeof plan_s);
-    memcpy(plan, plan_s, sizeof plan_s);
-    plan[at] = byte;
-    turned_back(plan, sizeof plan_s, "\x03\x03\x00", 3, 0, r);
-    turned_back(plan, sizeof plan_s, "\xff\xff\xff\xff", 4, UINT32_MAX, r);
-    free(plan);
-}
-
-static void refused_plans(void) {
-    static const uint8_t dependent[] = {0, 0, 0, 0, 0, 0, 1, 0, 1, 0, 0, 0, 2, 0, 0, 0};
-    uint8_t plan[sizeof plan_s];
-    turned_back(plan_s, 0, "\x03\x03\x00", 3, 0, (refusal){SHEET_PLAN_SHORT, 0, 0});
-    turned_back(plan_s, 19, "\x03\x03\x00", 3, 0, (refusal){SHEET_PLAN_SHORT, 0, 0});
-    turned_back(plan_s, 59, "\x03\x03\x00", 3, 0, (refusal){SHEET_PLAN_LENGTH, 0, 0});
-    plan_turned_back(4, 5, (refusal){SHEET_PLAN_BURST, 0, 0});
-    plan_turned_back(0, 0, (refusal){SHEET_PLAN_SIZE, 0, 0});
-    plan_turned_back(8, 33, (refusal){SHEET_PLAN_WIDTH, 0, 0});
-    plan_turned_back(18, 61, (refusal){SHEET_PLAN_LENGTH, 0, 0});
-    plan_turned_back(28, 4, (refusal){SHEET_PLAN_ENTRY, 0, 2});
-    plan_turned_back(50, 0, (refusal){SHEET_PLAN_CHECK, 1, 0});
-    plan_turned_back(28, 2, (refusal){SHEET_PLAN_ROWS, 1, 2});
-    plan_turned_back(40, 1, (refusal){SHEET_PLAN_COLUMNS, 1, 2});
-    memcpy(plan, plan_s, sizeof plan);
-    memcpy(plan + 44, dependent, sizeof dependent);
-    turned_back(plan, sizeof plan, "\xff\xff", 2, 5, (refusal){SHEET_PLAN_DEPENDENT, 3, 0});
+/* A plan is turned back whatever else is wrong: the sheet too long, the position past the data. */
+static void plan_turned_back(const uint8_t *plan, size_t plan_len, refusal r) {
+    turned_back(plan, plan_len, "\x03\x03\x00", 3, 0, r);
+    turned_back(plan, plan_len, "\xff\xff\xff\xff", 4, UINT32_MAX, r);
 }
 
 /* In order: 11, 13, 17 and 18, each with all that come after it. */
@@ -163,7 +120,7 @@ int main(void) {
     expect("no data bits", sheet_plan_data_bits(plan_s, 19) == 0 &&
                                sheet_plan_data_bits(few_cells, sizeof few_cells) == 0);
     by_hand();
-    refused_plans();
+    each_wrong_plan(plan_turned_back);
     refused_sheets();
     upper_half();
     house();

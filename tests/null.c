@@ -3,6 +3,7 @@
  * null data succeed under it. A host that asks malloc for that data's bytes may get null.
  */
 #include "expect.h"
+#include "plans.h"
 #include "sheet.h"
 
 /* One row of two cells, both check cells: k is 0. */
@@ -11,14 +12,6 @@ static const uint8_t plan_n[] = {
     1, 0, 0, 0,                                                     /* V */
     0, 0, 0, 0, 1, 0, 0, 0,                                         /* H */
     0, 0, 0, 0, 0, 0, 1, 0,                                         /* check list */
-};
-
-/* Plan S of document 01: three rows of three cells, k is 5. */
-static const uint8_t plan_s[] = {
-    3, 0, 3, 0, 1, 0, 1, 0, 2, 0, 2, 0, 20, 0, 32, 0, 44, 0, 60, 0, /* header */
-    1, 0, 0, 0, 2, 0, 0, 0, 3, 0, 0, 0,                             /* V */
-    0, 0, 0, 0, 1, 0, 0, 0, 2, 0, 0, 0,                             /* H */
-    0, 0, 0, 0, 0, 0, 1, 0, 0, 0, 2, 0, 1, 0, 0, 0,                 /* check list */
 };
 
 static int answers(uint64_t answer, unsigned number) { return answer == number; }

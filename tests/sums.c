@@ -4,15 +4,8 @@
  * hand; a sheet of the house plan in several runs; and buffers that are turned back.
  */
 #include "expect.h"
+#include "plans.h"
 #include "sheet.h"
-
-/* Plan T of document 01: two rows of four cells, bursts of one row and two columns. */
-static const uint8_t plan_t[] = {
-    2, 0, 4, 0, 1, 0, 2, 0, 4, 0, 2, 0, 20, 0, 36, 0, 52, 0, 76, 0,         /* header */
-    1, 0, 0, 0, 2, 0, 0, 0, 4, 0, 0, 0, 8, 0, 0, 0,                         /* V */
-    0, 0, 0, 0, 0, 0, 0, 0, 1, 0, 0, 0, 2, 0, 0, 0,                         /* H */
-    0, 0, 0, 0, 0, 0, 1, 0, 0, 0, 2, 0, 0, 0, 3, 0, 1, 0, 0, 0, 1, 0, 1, 0, /* check list */
-};
 
 typedef struct {
     const uint8_t *plan;

@@ -1,0 +1,62 @@
+/* Plans that the tests in C share: S and T of document 01, and S so altered that it is turned back. */
+#ifndef PLANS_H
+#define PLANS_H
+
+#include "expect.h"
+#include "sheet.h"
+
+#include <string.h>
+
+/* Plan S: three rows of three cells, bursts of one cell, k is 5. */
+static const uint8_t plan_s[] = {
+    3, 0, 3, 0, 1, 0, 1, 0, 2, 0, 2, 0, 20, 0, 32, 0, 44, 0, 60, 0, /* header */
+    1, 0, 0, 0, 2, 0, 0, 0, 3, 0, 0, 0,                             /* V */
+    0, 0, 0, 0, 1, 0, 0, 0, 2, 0, 0, 0,                             /* H */
+    0, 0, 0, 0, 0, 0, 1, 0, 0, 0, 2, 0, 1, 0, 0, 0,                 /* check list */
+};
+
+/* Plan T: two rows of four cells, bursts of one row and two columns, k is 2. */
+static const uint8_t plan_t[] = {
+    2, 0, 4, 0, 1, 0, 2, 0, 4, 0, 2, 0, 20, 0, 36, 0, 52, 0, 76, 0,         /* header */
+    1, 0, 0, 0, 2, 0, 0, 0, 4, 0, 0, 0, 8, 0, 0, 0,                         /* V */
+    0, 0, 0, 0, 0, 0, 0, 0, 1, 0, 0, 0, 2, 0, 0, 0,                         /* H */
+    0, 0, 0, 0, 0, 0, 1, 0, 0, 0, 2, 0, 0, 0, 3, 0, 1, 0, 0, 0, 1, 0, 1, 0, /* check list */
+};
+
+/* What is told where something is turned back. */
+typedef struct {
+    unsigned number, p, q;
+} refusal;
+
+static inline uint64_t told(refusal r) { return r.number | (uint64_t)r.p << 5 | (uint64_t)r.q << 21; }
+
+/* S as it is turned back by each check of a plan, in a buffer of its own, with what is told. */
+static inline void each_wrong_plan(void (*hand_over)(const uint8_t *plan, size_t len, refusal r)) {
+    static const struct {
+        size_t len, at, altered;
+        uint8_t bytes[12];
+        refusal r;
+    } wrong[] = {
+        {0, 0, 0, {0}, {SHEET_PLAN_SHORT, 0, 0}},
+        {19, 0, 0, {0}, {SHEET_PLAN_SHORT, 0, 0}},
+        {60, 4, 1, {5}, {SHEET_PLAN_BURST, 0, 0}},
+        {60, 0, 1, {0}, {SHEET_PLAN_SIZE, 0, 0}},
+        {60, 8, 1, {33}, {SHEET_PLAN_WIDTH, 0, 0}},
+        {59, 0, 0, {0}, {SHEET_PLAN_LENGTH, 0, 0}},
+        {60, 18, 1, {61}, {SHEET_PLAN_LENGTH, 0, 0}},
+        {60, 28, 1, {4}, {SHEET_PLAN_ENTRY, 0, 2}},
+        {60, 50, 1, {0}, {SHEET_PLAN_CHECK, 1, 0}},
+        {60, 28, 1, {2}, {SHEET_PLAN_ROWS, 1, 2}},
+        {60, 40, 1, {1}, {SHEET_PLAN_COLUMNS, 1, 2}},
+        {60, 48, 12, {0, 0, 1, 0, 1, 0, 0, 0, 2, 0, 0, 0}, {SHEET_PLAN_DEPENDENT, 3, 0}},
+    };
+    for (size_t at = 0; at < sizeof wrong / sizeof *wrong; at++) {
+        uint8_t *plan = lent(wrong[at].len);
+        if (wrong[at].len > 0) memcpy(plan, plan_s, wrong[at].len);
+        if (wrong[at].altered > 0) memcpy(plan + wrong[at].at, wrong[at].bytes, wrong[at].altered);
+        hand_over(plan, wrong[at].len, wrong[at].r);
+        free(plan);
+    }
+}
+
+#endif
