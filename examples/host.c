@@ -1,7 +1,7 @@
 /*
  * A whole host: makes a plan for sheets of 16 rows and 40 columns and bursts of 3 by 3 cells, writes a drawing to a
- * sheet, puts a burst on it, sums it in two halves, reads it back, alters one stitch, and shows each step. Cells inside
- * the mended rectangle are shown as O (dark) and o (light).
+ * sheet, puts a burst on it, sums it in two halves, reads it back, alters one stitch, reads two scans that each have a
+ * burst, and shows each step. Cells inside the mended rectangle are shown as O (dark) and o (light).
  *
  *     gcc -Iinclude examples/host.c target/staticlib/libsheet.a -o host && ./host
  */
@@ -28,7 +28,7 @@ static const char *const drawing[ROWS] = {
 
 static uint8_t *plan;
 static size_t plan_len;
-static uint8_t data[DATA_LEN], back[DATA_LEN], sheet[SHEET_LEN], scan[SHEET_LEN];
+static uint8_t data[DATA_LEN], back[DATA_LEN], sheet[SHEET_LEN], scan[SHEET_LEN], second[SHEET_LEN];
 static int is_check[ROWS][COLUMNS];
 static uint32_t position[ROWS][COLUMNS]; /* of the cells that are not check cells */
 
@@ -116,6 +116,31 @@ static int alter_stitch(size_t i, size_t j) {
     return memcmp(scan, sheet, SHEET_LEN) == 0 && memcmp(back, data, DATA_LEN) == 0;
 }
 
+/* A row as it lies in the second scan, where a part of that begins. */
+static void show_row(const uint8_t *row) {
+    for (size_t j = 0; j < COLUMNS; j++) putchar(dark(row, 0, j) ? '#' : '.');
+    putchar('\n');
+}
+
+/* Two scans of the sheet, each with its own burst: the row where they first differ, and the data that both give. */
+static int read_two_scans(void) {
+    sheet_part part;
+    memcpy(second, scan, SHEET_LEN);
+    turn(scan, 9, 8);
+    turn(scan, 10, 9);
+    turn(second, 3, 22);
+    turn(second, 4, 21);
+    turn(second, 5, 22);
+    part = sheet_scans_differ(plan, plan_len, scan, SHEET_LEN, second, SHEET_LEN);
+    if (part.length != ROW_BYTES) return 0;
+    printf("\ntwo scans, each with a burst: row %lu differs first, and the second scan has it as\n",
+           (unsigned long)((size_t)(part.start - second) / ROW_BYTES));
+    show_row(part.start);
+    memset(back, 0, DATA_LEN);
+    if (sheet_read_two(plan, plan_len, scan, SHEET_LEN, second, SHEET_LEN, back, DATA_LEN) != SHEET_OK) return 0;
+    return memcmp(back, data, DATA_LEN) == 0;
+}
+
 int main(void) {
     uint64_t answer = make_plan();
     if (sheet_answer_number(answer) != SHEET_OK) {
@@ -151,6 +176,9 @@ int main(void) {
     show("\nthe stitch at row 7, column 16 altered, and with it check cells:", scan, 0);
     printf("data bit %lu of %lu is altered, and the sheet is as written afresh\n", (unsigned long)position[7][16],
            (unsigned long)sheet_plan_data_bits(plan, plan_len));
+
+    if (!read_two_scans()) return 1;
+    printf("both scans give the altered data\n");
     free(plan);
     return 0;
 }

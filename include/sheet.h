@@ -1,12 +1,14 @@
 /*
  * sheet.h: pattern sheets that survive one burst.
  *
- * Seven calls on byte buffers: make a plan, make the house plan, test a plan, write a sheet, read a sheet, sum a run of
- * rows, alter one data bit of a sheet. Each answers one 64-bit number, which the functions below take apart. The bytes
- * of plans, sheets and data are described in docs/FORMAT.md.
+ * Nine calls on byte buffers: make a plan, make the house plan, test a plan, write a sheet, read a sheet, sum a run of
+ * rows, alter one data bit of a sheet, read two scans of one film, find the row where two scans first differ. Each
+ * answers one 64-bit number, which the functions below take apart. The bytes of plans, sheets and data are described in
+ * docs/FORMAT.md.
  *
  * Promise, proved for every accepted plan (docs/PROMISE.md): a sheet that sheet_write made, with any cells of one
- * rectangle of the plan's b1 rows and b2 columns turned over, is read back by sheet_read as it was written.
+ * rectangle of the plan's b1 rows and b2 columns turned over, is read back by sheet_read as it was written. Two scans
+ * of one such sheet, a burst on either or both, always give its data by sheet_read_two.
  *
  * Words. This header has one word for each thing; the knitter's word stands after it:
  *     sheet     the film: n1 rows by n2 columns of dark and light cells
@@ -20,6 +22,7 @@
  *     sums      of a sheet or a run: the exclusive-or of the V entries, and that of the H entries, of its dark cells
  *     belongs   of a sheet to its plan: both its sums are 0, as those of every written sheet are
  *     position  the number of a data bit, from 0 on: a stitch of the drawing, counted as the carriage goes
+ *     scan      a sheet as one head read it from the film: two scans of one film may each have a burst
  *
  * The machine. libsheet.a is for x86-64 Linux, 64-bit: the C calling convention of System V, and a size_t of 8 bytes,
  * which is checked below. Of the C library it needs memcpy and memset, and nothing else.
@@ -57,7 +60,9 @@ enum {
     SHEET_PLAN_TEST_STACK = 65536,    /* bytes of stack that are enough for sheet_plan_test */
     SHEET_WRITE_READ_STACK = 65536,   /* bytes of stack that are enough for sheet_write, and for sheet_read */
     SHEET_SUMS_STACK = 65536,         /* bytes of stack that are enough for sheet_sums */
-    SHEET_ALTER_STACK = 65536         /* bytes of stack that are enough for sheet_alter */
+    SHEET_ALTER_STACK = 65536,        /* bytes of stack that are enough for sheet_alter */
+    SHEET_READ_TWO_STACK = 65536,     /* bytes of stack that are enough for sheet_read_two */
+    SHEET_DIFFERENCE_STACK = 65536    /* bytes of stack that are enough for sheet_first_difference */
 };
 
 /* The numbers of an answer, and what its places p and q tell. */
@@ -73,14 +78,15 @@ enum {
     SHEET_PLAN_ROWS = 8,      /* the condition on rows fails; the two window starts */
     SHEET_PLAN_COLUMNS = 9,   /* the condition on columns fails; the two strip starts */
     SHEET_PLAN_DEPENDENT = 10, /* a check cell depends on earlier ones; index, 0 */
-    SHEET_SHEET_LENGTH = 11,  /* the sheet buffer has another length; 0, 0 */
+    SHEET_SHEET_LENGTH = 11,  /* the buffer of a sheet, or of a scan, has another length; 0, 0 */
     SHEET_DATA_LENGTH = 12,   /* the data buffer has another length; 0, 0 */
-    SHEET_UNUSED_BIT = 13,    /* an unused bit is 1, of data written or sheet read, summed or altered; byte index, 0 */
-    SHEET_NOT_MENDABLE = 14,  /* no single burst brings both sums to 0; 0, 0 */
+    SHEET_UNUSED_BIT = 13,    /* an unused bit is 1, of data written, or of a sheet or scan handed in; byte index, 0 */
+    SHEET_NOT_MENDABLE = 14,  /* no single burst brings both sums to 0, of two scans those of neither; 0, 0 */
     SHEET_PLAN_POLYNOMIAL = 15, /* a polynomial has constant term 0, or a coefficient at or above its degree; 0, 0 */
     SHEET_PLAN_FEW_CELLS = 16, /* fewer than rv + rh check cells could be taken; 0, 0 */
     SHEET_POSITION = 17,      /* the position is k or more; 0, 0 */
     SHEET_NOT_BELONGING = 18, /* the sheet to alter does not belong to its plan; 0, 0 */
+    SHEET_DATA_DIFFER = 19,   /* both scans can be mended, and their data differ; 0, 0 */
     SHEET_SUMS_LENGTH = 24    /* the buffer of the sums has another length; 0, 0 */
 };
 
@@ -146,6 +152,30 @@ uint64_t sheet_sums(const uint8_t *plan, size_t plan_len, const uint8_t *sheet, 
  */
 uint64_t sheet_alter(const uint8_t *plan, size_t plan_len, uint8_t *sheet, size_t sheet_len, uint32_t position);
 
+/*
+ * Reads two scans of one film: checks 1 to 11 for the first scan, 11 for the second, 12, 13 for the first, 13 for the
+ * second, 14 and 19, then every byte of the data, whatever that held. Leaves plan and both scans alone: neither is
+ * mended in place. first_len and second_len are sheet_plan_sheet_bytes, data_len sheet_plan_data_bytes. Which scan
+ * failed check 11 or 13 is not told.
+ * Where both scans can be mended and their data agree, or only one can be mended, that data is given. Scans whose
+ * bursts lie on check cells differ, and their data do not. SHEET_NOT_MENDABLE is given exactly where neither can be
+ * mended, and SHEET_DATA_DIFFER where both can and their data differ: they are no scans of one written sheet, or a scan
+ * has more than one burst. The answer has a number and two places alone: no cells and no rectangle are told.
+ * Two scans of one written sheet, a burst on either or both, always give its data. The scans may be the same buffer, or
+ * overlap each other, since both are only read; data overlaps neither.
+ */
+uint64_t sheet_read_two(const uint8_t *plan, size_t plan_len, const uint8_t *first, size_t first_len,
+                        const uint8_t *second, size_t second_len, uint8_t *data, size_t data_len);
+
+/*
+ * Finds the row where two scans first differ, in any of its cells: bits 0 to 31 of what is told are the place in the
+ * second scan where that row begins, bits 32 to 63 its length, the bytes of one row. Tells 0 where no row differs, and
+ * where one of checks 1 to 11 and 13 fails, of either scan: this call alone tells no number. Writes nothing. The scans
+ * may be the same buffer, or overlap. sheet_scans_differ, below, gives the row as a part of the second scan.
+ */
+uint64_t sheet_first_difference(const uint8_t *plan, size_t plan_len, const uint8_t *first, size_t first_len,
+                                const uint8_t *second, size_t second_len);
+
 /* An answer taken apart (docs/ANSWER.md). */
 static inline unsigned sheet_answer_number(uint64_t answer) { return (unsigned)(answer & 31u); }
 static inline unsigned sheet_answer_p(uint64_t answer) { return (unsigned)((answer >> 5) & 65535u); }
@@ -162,6 +192,29 @@ static inline uint32_t sheet_sums_v(const uint8_t *sums) {
 }
 
 static inline uint32_t sheet_sums_h(const uint8_t *sums) { return sheet_sums_v(sums + 4); }
+
+/* What sheet_first_difference tells, taken apart: both are 0 where it tells of no row. */
+static inline size_t sheet_difference_place(uint64_t difference) { return (size_t)(difference & 0xffffffffu); }
+static inline size_t sheet_difference_length(uint64_t difference) { return (size_t)(difference >> 32); }
+
+/* Bytes of a buffer of the caller's: where they begin, and how many they are. An empty part has length 0. */
+typedef struct {
+    const uint8_t *start;
+    size_t length;
+} sheet_part;
+
+/*
+ * The row where two scans first differ, as it lies in the second scan, or an empty part: no row differs, or one of
+ * checks 1 to 11 and 13 fails. An empty part starts where the second scan does, which may be null if its length is 0.
+ * The part is the caller's own bytes: it lasts as long as the second scan does.
+ */
+static inline sheet_part sheet_scans_differ(const uint8_t *plan, size_t plan_len, const uint8_t *first,
+                                            size_t first_len, const uint8_t *second, size_t second_len) {
+    uint64_t difference = sheet_first_difference(plan, plan_len, first, first_len, second, second_len);
+    sheet_part part = {second, sheet_difference_length(difference)};
+    if (part.length != 0) part.start += sheet_difference_place(difference);
+    return part;
+}
 
 /*
  * The bytes of a plan of these sizes: the length that sheet_plan_make asks for. Any numbers may be handed in: for

@@ -16,9 +16,12 @@ static const uint8_t plan_n[] = {
 
 static int answers(uint64_t answer, unsigned number) { return answer == number; }
 
+static int is_empty(sheet_part part, const uint8_t *second) { return part.length == 0 && part.start == second; }
+
 int main(void) {
-    uint8_t sheet[3] = {0xaa, 0xaa, 0xaa}, data[1] = {0}, sums[SHEET_SUMS_BYTES] = {0xaa};
+    uint8_t sheet[3] = {0xaa, 0xaa, 0xaa}, scan[3] = {1, 0, 0}, data[1] = {0}, sums[SHEET_SUMS_BYTES] = {0xaa};
     uint8_t *none = malloc(sheet_plan_data_bytes(plan_n, sizeof plan_n));
+    size_t n = sizeof plan_n, s = sizeof plan_s;
     uint64_t answer;
 
     expect("sizes of no plan", sheet_plan_sheet_bytes(NULL, 0) == 0 && sheet_plan_data_bytes(NULL, 0) == 0 &&
@@ -70,6 +73,20 @@ int main(void) {
     expect("alter, neither", answers(sheet_alter(plan_n, sizeof plan_n, NULL, 0, 0), SHEET_SHEET_LENGTH));
     expect("alter, k = 0", answers(sheet_alter(plan_n, sizeof plan_n, sheet, 1, 0), SHEET_POSITION));
     expect("a refusal leaves the sheet", sheet[0] == 0 && sheet[1] == 0xaa);
+
+    expect("two, no plan", answers(sheet_read_two(NULL, 0, sheet, 1, sheet, 1, data, 1), SHEET_PLAN_SHORT));
+    expect("two, nothing", answers(sheet_read_two(NULL, 0, NULL, 0, NULL, 0, NULL, 0), SHEET_PLAN_SHORT));
+    expect("two, no scans", answers(sheet_read_two(plan_n, n, NULL, 0, NULL, 0, NULL, 0), SHEET_SHEET_LENGTH));
+    expect("two, no first", answers(sheet_read_two(plan_n, n, NULL, 0, sheet, 1, NULL, 0), SHEET_SHEET_LENGTH));
+    expect("two, no second", answers(sheet_read_two(plan_n, n, sheet, 1, NULL, 0, NULL, 0), SHEET_SHEET_LENGTH));
+    expect("two, no data", answers(sheet_read_two(plan_s, s, scan, 3, scan, 3, NULL, 0), SHEET_DATA_LENGTH));
+    expect("two, k = 0", answers(sheet_read_two(plan_n, n, sheet, 1, sheet, 1, NULL, 0), SHEET_OK));
+    expect("difference, nothing", is_empty(sheet_scans_differ(NULL, 0, NULL, 0, NULL, 0), NULL));
+    expect("difference, no plan", is_empty(sheet_scans_differ(NULL, 0, sheet, 1, scan, 1), scan));
+    expect("difference, no scans", is_empty(sheet_scans_differ(plan_n, n, NULL, 0, NULL, 0), NULL));
+    expect("difference, no first", is_empty(sheet_scans_differ(plan_n, n, NULL, 0, scan, 1), scan));
+    expect("difference, no second", is_empty(sheet_scans_differ(plan_n, n, scan, 1, NULL, 0), NULL));
+    expect("the scans are left alone", sheet[0] == 0 && sheet[1] == 0xaa && scan[0] == 1 && scan[2] == 0);
 
     expect("write, malloc(0)", answers(sheet_write(plan_n, sizeof plan_n, none, 0, sheet, 1), SHEET_OK));
     expect("read, malloc(0)", answers(sheet_read(plan_n, sizeof plan_n, sheet, 1, none, 0), SHEET_OK));

@@ -1,5 +1,5 @@
-//! The small plans of document 01 and what they do ("Small plans and what they do"), and sums of runs and
-//! alterations that are worked out by hand.
+//! The small plans of document 01 and what they do ("Small plans and what they do"), and sums of runs,
+//! alterations and pairs of scans that are worked out by hand.
 
 use std::ops::Range;
 
@@ -218,5 +218,61 @@ pub fn alter_cases() -> Vec<AlterCase> {
         (plan_s(), s.map(Vec::from).to_vec()),
         (plan_t(), t.map(Vec::from).to_vec()),
         (plan_two_rows(), two_rows.map(Vec::from).to_vec()),
+    ]
+}
+
+/// A plan, two scans, the data that they give or the number that they are turned back with, and the row
+/// where they first differ, if they do.
+pub type TwoCase = (Plan, [Vec<u8>; 2], Result<u8, u64>, Option<usize>);
+
+/// Worked out by hand from cases 2 to 7, `alter_cases` and the cells that differ from a written sheet.
+pub fn two_cases() -> Vec<TwoCase> {
+    let s = |scans: [[u8; 3]; 2], read, row| (plan_s(), scans.map(Vec::from), read, row);
+    let t = |scans: [[u8; 2]; 2], read, row| (plan_t(), scans.map(Vec::from), read, row);
+    let rows = |scans: [[u8; 3]; 2], read, row| (plan_two_rows(), scans.map(Vec::from), read, row);
+    vec![
+        // 03 03 00 is written from data 02: as written; (2, 0) turned over in either scan or in both, and
+        // (0, 0) in the other.
+        s([[0x03, 0x03, 0x00], [0x03, 0x03, 0x00]], Ok(0x02), None),
+        s([[0x03, 0x03, 0x01], [0x03, 0x03, 0x00]], Ok(0x02), Some(2)),
+        s([[0x03, 0x03, 0x00], [0x03, 0x03, 0x01]], Ok(0x02), Some(2)),
+        s([[0x03, 0x03, 0x01], [0x03, 0x03, 0x01]], Ok(0x02), None),
+        s([[0x03, 0x03, 0x01], [0x02, 0x03, 0x00]], Ok(0x02), Some(0)),
+        s([[0x02, 0x03, 0x00], [0x03, 0x03, 0x01]], Ok(0x02), Some(0)),
+        // (0, 2) is a check cell; (1, 1) holds the only data bit that is 1.
+        s([[0x03, 0x03, 0x00], [0x07, 0x03, 0x00]], Ok(0x02), Some(0)),
+        s([[0x03, 0x01, 0x00], [0x03, 0x03, 0x00]], Ok(0x02), Some(1)),
+        s([[0x03, 0x03, 0x00], [0x03, 0x01, 0x00]], Ok(0x02), Some(1)),
+        // The sheets of case 4 cannot be mended.
+        s([[0x03, 0x03, 0x01], [0x03, 0x00, 0x00]], Ok(0x02), Some(1)),
+        s([[0x03, 0x00, 0x00], [0x03, 0x03, 0x01]], Ok(0x02), Some(1)),
+        s([[0x03, 0x00, 0x00], [0x06, 0x01, 0x00]], Err(14), Some(0)),
+        s([[0x03, 0x00, 0x00], [0x03, 0x00, 0x00]], Err(14), None),
+        // 05 05 00 is written from data 01: as written, and with (2, 0) or (2, 2) turned over.
+        s([[0x03, 0x03, 0x00], [0x05, 0x05, 0x00]], Err(19), Some(0)),
+        s([[0x03, 0x03, 0x01], [0x05, 0x05, 0x01]], Err(19), Some(0)),
+        s([[0x05, 0x05, 0x04], [0x03, 0x03, 0x01]], Err(19), Some(0)),
+        // 05 05 is written from data 02. Case 6 has (0, 1) and (0, 2) turned over; then the same columns
+        // of row 1, and the check cells (1, 0) and (1, 1).
+        t([[0x03, 0x05], [0x05, 0x05]], Ok(0x02), Some(0)),
+        t([[0x03, 0x05], [0x05, 0x03]], Ok(0x02), Some(0)),
+        t([[0x05, 0x05], [0x05, 0x03]], Ok(0x02), Some(1)),
+        t([[0x05, 0x05], [0x05, 0x06]], Ok(0x02), Some(1)),
+        // The sheets of case 7 cannot be mended.
+        t([[0x03, 0x05], [0x0c, 0x05]], Ok(0x02), Some(0)),
+        t([[0x01, 0x01], [0x03, 0x05]], Ok(0x02), Some(0)),
+        t([[0x0c, 0x05], [0x01, 0x01]], Err(14), Some(0)),
+        // 0a 0a is written from data 01: as written, with (0, 0) turned over, and with (0, 2) and (0, 3),
+        // which leaves row 0 as (0, 0) and (0, 1) turned over leave that of 05 05.
+        t([[0x05, 0x05], [0x0a, 0x0a]], Err(19), Some(0)),
+        t([[0x03, 0x05], [0x0b, 0x0a]], Err(19), Some(0)),
+        t([[0x06, 0x05], [0x06, 0x0a]], Err(19), Some(1)),
+        // 03 00 03 is written from data 01: column 1 turned over in rows 0 and 1, and in rows 1 and 2.
+        rows([[0x01, 0x02, 0x03], [0x03, 0x00, 0x03]], Ok(0x01), Some(0)),
+        rows([[0x01, 0x02, 0x03], [0x03, 0x02, 0x01]], Ok(0x01), Some(0)),
+        rows([[0x03, 0x00, 0x03], [0x03, 0x02, 0x01]], Ok(0x01), Some(1)),
+        rows([[0x01, 0x02, 0x03], [0x00, 0x00, 0x00]], Err(19), Some(0)),
+        // The light sheet, and with the only data cell, (2, 1), turned over.
+        rows([[0x00, 0x00, 0x00], [0x00, 0x00, 0x02]], Ok(0x00), Some(2)),
     ]
 }

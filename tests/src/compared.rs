@@ -3,9 +3,10 @@
 use std::ops::Range;
 
 use crate::answer::Answer;
-use crate::ffi::{house_plan, Library};
+use crate::ffi::{house_plan, part, Library};
 use crate::given::{Given, HOUSE};
 use crate::model::{self, Cell, Sums};
+use crate::pairs::{difference_of, row_places};
 use crate::plan::Plan;
 use crate::rng::Rng;
 use crate::scans::{random_burst, random_data, turned};
@@ -169,6 +170,74 @@ impl Harness {
         assert_eq!(answer, told.pack(), "{both}");
         assert!(left == expected, "the altered sheet differs from the model's: {both}");
         (answer, left)
+    }
+
+    /// Read two scans by the library, into a buffer of this length. Answer and every byte of it must be the
+    /// model's.
+    pub fn read_two(&mut self, plan: &[u8], first: &[u8], second: &[u8], data_len: usize) -> u64 {
+        let by_model = |data: &mut [u8]| model::read_two(plan, first, second, data);
+        self.two_beside(plan, [first, second], data_len, by_model).0
+    }
+
+    /// The same under a plan that is known to be accepted, into a buffer of the right length; the answer,
+    /// and the buffer as it is left.
+    pub fn both_read(&mut self, plan: &Plan, first: &[u8], second: &[u8]) -> (u64, Vec<u8>) {
+        let by_model = |data: &mut [u8]| model::read_two_accepted(plan, first, second, data);
+        self.two_beside(&plan.encode(), [first, second], plan.data_len(), by_model)
+    }
+
+    fn two_beside(
+        &mut self,
+        plan: &[u8],
+        [first, second]: [&[u8]; 2],
+        data_len: usize,
+        by_model: impl FnOnce(&mut [u8]) -> Answer,
+    ) -> (u64, Vec<u8>) {
+        let held = self.rng.bytes(data_len);
+        let (mut expected, mut data) = (held.clone(), held);
+        let answer = self.library.read_two(plan, first, second, &mut data);
+        let told = by_model(&mut expected);
+        assert_eq!(answer, told.pack(), "library {:?}, model {told:?}", Answer::unpack(answer));
+        assert!(data == expected, "the data differs from the model's: {told:?}");
+        (answer, data)
+    }
+
+    /// The row where two scans first differ by the library, as its places in the second scan: the model's.
+    /// None if the part is empty.
+    pub fn first_difference(&mut self, plan: &[u8], first: &[u8], second: &[u8]) -> Range<usize> {
+        let expected = model::first_difference(plan, first, second);
+        self.difference_beside(plan, first, second, expected)
+    }
+
+    /// The same under a plan that is known to be accepted.
+    pub fn differing_row(&mut self, plan: &Plan, first: &[u8], second: &[u8]) -> Range<usize> {
+        let expected = model::first_difference_accepted(plan, first, second);
+        self.difference_beside(&plan.encode(), first, second, expected)
+    }
+
+    /// The row where two scans differ first, which must be that of the first of these cells: those in which
+    /// they differ. It is told as it lies in the second scan.
+    pub fn differs_first(&mut self, plan: &Plan, scans: [&[u8]; 2], cells: &[Cell]) {
+        let row = cells.iter().map(|cell| cell.0).min();
+        let places = row.map_or(0..0, |row| row_places(plan, row));
+        let told = self.library.first_difference(&plan.encode(), scans[0], scans[1]);
+        assert_eq!(told, difference_of(&places), "{cells:?} under {plan:?}");
+    }
+
+    fn difference_beside(
+        &mut self,
+        plan: &[u8],
+        first: &[u8],
+        second: &[u8],
+        expected: Range<usize>,
+    ) -> Range<usize> {
+        let difference = self.library.first_difference(plan, first, second);
+        let told = difference_of(&expected);
+        assert_eq!(difference, told, "library on the left, model on the right: {expected:?}");
+        let row = part(second, difference);
+        assert_eq!(row.as_ptr(), second[expected.start..].as_ptr(), "the part lies elsewhere");
+        assert!(row == &second[expected.clone()]);
+        expected
     }
 
     /// A sheet that the library wrote from random data, compared with the model's.

@@ -1,9 +1,9 @@
-//! An independent model of the product of document 01 (01-scope.md) and of requests a, c, d, e and f of
-//! document 02 (02-change-requests.md), written from their words alone, and what the tests and timings
+//! An independent model of the product of document 01 (01-scope.md) and of requests a, c, d, e, f and g
+//! of document 02 (02-change-requests.md), written from their words alone, and what the tests and timings
 //! of libsheet.a need beside it.
 //!
 //! Words: a row is a course of 01, a column a needle, a burst a blot, a syndrome the two sums of a
-//! sheet, a check cell a cell of the check list.
+//! sheet, a check cell a cell of the check list, a scan a sheet as one head read it from the film.
 
 pub mod answer;
 pub mod cases;
@@ -18,6 +18,7 @@ pub mod house;
 pub mod line;
 pub mod make;
 pub mod model;
+pub mod pairs;
 pub mod plan;
 pub mod positions;
 pub mod rng;

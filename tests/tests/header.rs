@@ -5,7 +5,9 @@ use std::thread;
 
 use sheet_tests::answer::Answer;
 use sheet_tests::cases::{plan_s, plan_t};
-use sheet_tests::ffi::{alter, house_plan, plan_make, sums, SHEET};
+use sheet_tests::ffi::{
+    alter, first_difference, house_plan, part, plan_make, read_two, sums, SHEET,
+};
 use sheet_tests::given::{Given, HOUSE};
 use sheet_tests::header::constant;
 use sheet_tests::make::{
@@ -13,6 +15,7 @@ use sheet_tests::make::{
     WIDE,
 };
 use sheet_tests::model;
+use sheet_tests::pairs::{difference_of, hopeless, row_places};
 use sheet_tests::plan::{Plan, HEADER_LEN};
 use sheet_tests::rng::Rng;
 use sheet_tests::runs::whole;
@@ -34,6 +37,12 @@ fn numbers_of_the_sums() {
 #[test]
 fn numbers_of_an_alteration() {
     assert_eq!([constant("SHEET_POSITION"), constant("SHEET_NOT_BELONGING")], [17, 18]);
+}
+
+/// The number of the check that two scans bring.
+#[test]
+fn number_of_two_scans() {
+    assert_eq!(constant("SHEET_DATA_DIFFER"), 19);
 }
 
 #[test]
@@ -181,6 +190,55 @@ fn stack_of_altering() {
     }
 }
 
+/// A full burst in the last corner of each scan, and refusals by the last two checks.
+#[test]
+fn stack_of_reading_two() {
+    let enough = constant("SHEET_READ_TWO_STACK");
+    let mut rng = Rng::new(5);
+    for plan in large_plans(&mut rng) {
+        let [written, other] =
+            [(); 2].map(|()| model::write_sheet(&plan, &random_data(&plan, &mut rng)));
+        let cells = burst(&plan, plan.n1 - plan.b1, plan.n2 - plan.b2, u32::MAX);
+        let scan = turned(&plan, &written, &cells);
+        let lost = hopeless(&plan, &mut rng).expect("not every sheet can be mended");
+        for (first, second, number) in [
+            (&scan, &scan, 0),
+            (&lost, &scan, 0),
+            (&scan, &lost, 0),
+            (&lost, &lost, 14),
+            (&scan, &other, 19),
+        ] {
+            let (bytes, first, second) = (plan.encode(), first.clone(), second.clone());
+            let (mut data, mut expected) =
+                (vec![0xff; plan.data_len()], vec![0xff; plan.data_len()]);
+            let told = model::read_two_accepted(&plan, &first, &second, &mut expected);
+            assert_eq!(told.number, number);
+            let (answer, data) = with_stack(enough, move || {
+                let answer = read_two(&bytes, &first, &second, &mut data, false);
+                (answer, data)
+            });
+            assert!(answer == told.pack() && data == expected, "{answer:#x}, not {number}");
+        }
+    }
+}
+
+/// Scans that differ in the last cell alone, and scans that do not differ.
+#[test]
+fn stack_of_the_difference() {
+    let enough = constant("SHEET_DIFFERENCE_STACK");
+    for plan in large_plans(&mut Rng::new(6)) {
+        let first = dark_sheet(&plan);
+        let last = turned(&plan, &first, &[(plan.n1 - 1, plan.n2 - 1)]);
+        let told = difference_of(&row_places(&plan, plan.n1 - 1));
+        for (second, told) in [(last, told), (first.clone(), 0)] {
+            let (bytes, first) = (plan.encode(), first.clone());
+            let difference =
+                with_stack(enough, move || first_difference(&bytes, &first, &second, false));
+            assert_eq!(difference, told);
+        }
+    }
+}
+
 /// Bytes, or none if a bit of `empty` says so.
 fn kept(empty: usize, buffer: usize, bytes: Vec<u8>) -> Vec<u8> {
     if empty >> buffer & 1 == 1 {
@@ -261,6 +319,34 @@ fn null_altered() {
             assert_eq!(told.number, number);
             assert_eq!(alter(&bytes, &mut left, 0, true), told.pack());
             assert_eq!(left, expected);
+        }
+    }
+}
+
+/// The same for two scans: the plan, the first scan, the second and the data. Where there is no data, null
+/// data is taken. The part of a scan that is null is empty.
+#[test]
+fn null_scans() {
+    let with_data = [0, 1, 11, 1, 11, 1, 11, 1, 12, 1, 11, 1, 11, 1, 11, 1];
+    let without = [0, 1, 11, 1, 11, 1, 11, 1, 0, 1, 11, 1, 11, 1, 11, 1];
+    for (plan, numbers) in [(plan_s(), with_data), (plan_t(), with_data), (no_data(), without)] {
+        for (empty, number) in numbers.into_iter().enumerate() {
+            let bytes = kept(empty, 0, plan.encode());
+            let light = vec![0; plan.sheet_len()];
+            let first = kept(empty, 1, turned(&plan, &light, &[(plan.n1 - 1, 1)]));
+            let second = kept(empty, 2, light);
+            let held = kept(empty, 3, vec![0xaa; plan.data_len()]);
+            let (mut data, mut expected) = (held.clone(), held);
+            let told = model::read_two(&bytes, &first, &second, &mut expected);
+            assert_eq!(told.number, number);
+            assert_eq!(read_two(&bytes, &first, &second, &mut data, true), told.pack());
+            assert_eq!(data, expected);
+
+            let difference = first_difference(&bytes, &first, &second, true);
+            let row = model::first_difference(&bytes, &first, &second);
+            assert_eq!(row.is_empty(), empty & 7 != 0);
+            assert_eq!(difference, difference_of(&row));
+            assert_eq!(part(&second, difference), &second[row]);
         }
     }
 }

@@ -5,7 +5,8 @@ use std::collections::BTreeSet;
 
 use sheet_tests::answer::Answer;
 use sheet_tests::cases::{
-    alter_cases, plan_cases, plan_s, plan_t, plan_two_rows, read_cases, run_cases, write_cases,
+    alter_cases, plan_cases, plan_s, plan_t, plan_two_rows, read_cases, run_cases, two_cases,
+    write_cases,
 };
 use sheet_tests::given::{altered, random_given, HOUSE};
 use sheet_tests::line::{line, INPUT_LIMIT};
@@ -14,6 +15,7 @@ use sheet_tests::make::{
     Polynomial,
 };
 use sheet_tests::model;
+use sheet_tests::pairs::row_places;
 use sheet_tests::plan::Plan;
 use sheet_tests::positions::differing_data_cells;
 use sheet_tests::rng::Rng;
@@ -108,6 +110,55 @@ fn one_stitch_altered() {
                 let mut left = sheet.clone();
                 let answer = model::alter_accepted(&plan, &mut left, position as u32);
                 assert_eq!((answer, vec![&left]), (Answer::default(), expected));
+            }
+        }
+    }
+}
+
+/// Pairs of scans worked out by hand.
+#[test]
+fn worked_pairs() {
+    for (plan, [first, second], read, row) in two_cases() {
+        let mut data = [0xaa];
+        let answer = model::read_two(&plan.encode(), &first, &second, &mut data);
+        assert_eq!(
+            answer,
+            Answer::refusal(read.err().unwrap_or(0), 0, 0),
+            "{first:x?} {second:x?}"
+        );
+        assert_eq!(data, [read.unwrap_or(0xaa)], "{first:x?} {second:x?}");
+        let expected = row.map_or(0..0, |row| row_places(&plan, row));
+        assert_eq!(model::first_difference(&plan.encode(), &first, &second), expected);
+    }
+}
+
+/// 02 g), by the bare definitions, for all pairs of sheets of the smallest plans: of the sheets that belong,
+/// those that a burst leads to, by trial; from these the data. And the first row of bytes that differ.
+#[test]
+fn two_heads() {
+    for plan in [plan_t(), plan_two_rows(), no_data()] {
+        let mended = |scan: Vec<u8>| {
+            let burst = model::burst_by_trial(&plan, &scan);
+            let data = burst.map(|cells| model::data_of(&plan, &turned(&plan, &scan, &cells)));
+            (scan, data)
+        };
+        let scans: Vec<_> = every_sheet(&plan).map(mended).collect();
+        for (first, one) in &scans {
+            for (second, other) in &scans {
+                let given: BTreeSet<_> = one.iter().chain(other).cloned().collect();
+                let given: Vec<_> = given.into_iter().collect();
+                let mut data = vec![0xaa; plan.data_len()];
+                let answer = model::read_two_accepted(&plan, first, second, &mut data);
+                assert_eq!(answer, Answer::refusal([14, 0, 19][given.len()], 0, 0));
+                let held = vec![0xaa; plan.data_len()];
+                assert_eq!(data, if given.len() == 1 { given[0].clone() } else { held });
+
+                let row = (0..plan.n1).find(|&row| {
+                    let places = row_places(&plan, row);
+                    first[places.clone()] != second[places]
+                });
+                let expected = row.map_or(0..0, |row| row_places(&plan, row));
+                assert_eq!(model::first_difference_accepted(&plan, first, second), expected);
             }
         }
     }

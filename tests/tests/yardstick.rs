@@ -103,3 +103,50 @@ fn yardstick_of_altering_agrees() {
         &[(0..=0, 1000), (11..=11, 100), (13..=13, 100), (17..=18, 100)],
     );
 }
+
+/// So does the reading of two scans, and where they first differ: good and damaged plans, scans of one sheet
+/// and of two, with bursts and random, with right and wrong buffers.
+#[test]
+fn yardstick_of_two_scans_agrees() {
+    let mut rng = Rng::new(20);
+    let (mut tally, mut rows) = (Tally::default(), 0);
+    for (b1, b2) in burst_sizes() {
+        for _ in 0..20 {
+            let plan = accepted(&mut rng, b1, b2, 10);
+            let sheets = [(); 2].map(|()| model::write_sheet(&plan, &random_data(&plan, &mut rng)));
+            for _ in 0..30 {
+                let bytes = if rng.one_in(6) { damaged(&plan, &mut rng) } else { plan.encode() };
+                let [first, second] = [(); 2].map(|()| {
+                    let written = &sheets[usize::from(rng.one_in(4))];
+                    let mut scan = turned(&plan, written, &random_burst(&plan, &mut rng));
+                    if rng.one_in(4) {
+                        scan = random_sheet(&plan, &mut rng);
+                    }
+                    if rng.one_in(12) {
+                        set_unused_of_sheet(&plan, &mut scan, &mut rng);
+                    }
+                    if rng.one_in(12) {
+                        alter_length(&mut scan, &mut rng);
+                    }
+                    scan
+                });
+                let mut data = rng.bytes(plan.data_len());
+                if rng.one_in(12) {
+                    alter_length(&mut data, &mut rng);
+                }
+                let mut expected = data.clone();
+                let answer = model::read_two(&bytes, &first, &second, &mut expected).pack();
+                let plain = yardstick::plain_read_two(&bytes, &first, &second, &mut data);
+                assert_eq!((plain, data), (answer, expected));
+                tally.count(answer);
+                let row = model::first_difference(&bytes, &first, &second);
+                assert_eq!(yardstick::plain_first_difference(&bytes, &first, &second), row);
+                rows += usize::from(!row.is_empty());
+            }
+        }
+    }
+    println!("{rows} rows that differ");
+    assert!(rows >= 1000);
+    let least = [(0..=0, 1000), (11..=14, 100), (19..=19, 100)];
+    tally.require("plain reading of two scans", &least);
+}

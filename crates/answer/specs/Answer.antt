@@ -7,6 +7,9 @@
 --   packed      the fields one above the other, the number lowest
 --   numberIn, pIn, qIn, cellsIn, topIn, leftIn, heightIn, widthIn   a field of an answer
 --   Carries     each field, taken out of an answer, is that of the fields given; bit 63 of the answer is 0
+--   packedPart           a part of a buffer: the byte where it starts, and its length above
+--   placeIn, lengthIn    the start and the length of such an answer
+--   PartCarries          both, taken out of an answer, are those given; the answer is below 2 to the power 63
 use mathlib.Core.Path.{_≡_}
 use Prim.Native.Nat.{ℕ, _+_, _*_, _/_, _%_, _^_, _<_}
 use Rattle.answer.specs.declared.Answer.{Answer}
@@ -83,4 +86,18 @@ pub record Carries (a : ℕ) (f : Fields) : Type 0 where
   pub left : leftIn a ≡ f .left
   pub height : heightIn a ≡ f .height
   pub width : widthIn a ≡ f .width
+  pub below : a < 2 ^ 63
+
+unfoldable pub packedPart : (start length : ℕ) → ℕ
+packedPart start length = start + 4294967296 * length
+
+unfoldable pub placeIn : ℕ → ℕ
+placeIn a = a % 4294967296
+
+unfoldable pub lengthIn : ℕ → ℕ
+lengthIn a = a / 4294967296
+
+pub record PartCarries (a start length : ℕ) : Type 0 where
+  pub place : placeIn a ≡ start
+  pub size : lengthIn a ≡ length
   pub below : a < 2 ^ 63

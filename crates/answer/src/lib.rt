@@ -1,6 +1,7 @@
 // The answer of a call as one 64-bit number: eight fields, the number of the check lowest (docs/ANSWER.md).
 ghost use mathlib.Core.Path.{_≡_};
-ghost use Rattle.answer.specs.Answer.{InRange, fieldsOf, placesFields, packed};
+ghost use Prim.Native.Nat.{_<_};
+ghost use Rattle.answer.specs.Answer.{InRange, fieldsOf, placesFields, packed, packedPart};
 
 pub struct Answer {
     pub number: usize,
@@ -38,4 +39,12 @@ pub fn pack_places(number: usize, p: usize, q: usize) -> u64
         height: 0,
         width: 0,
     })
+}
+
+// A part of a buffer: the byte where it starts, and its length.
+pub fn pack_part(start: usize, length: usize) -> u64
+    requires { ⌜ (start < 65536) × (length < 65536) ⌝ }
+    ensures { λ r. ⌜ r ≡ packedPart start length ⌝ }
+{
+    (start + 4294967296 * length) as u64
 }

@@ -5,24 +5,25 @@
 --   one-turned     a sheet that belongs, with the cell turned over, has the joint entry of the cell as its joint sum
 --   row-on, column-on   the cell of a data bit is on the sheet
 --   one-data       it is the cell of that data bit and of no other
+--   check-data     a check cell is the cell of no data bit
 --   turned-data    a sheet with the cell of a data bit turned over holds its data with that bit turned over
 --
 -- Assumes nothing.
 use mathlib.Core.Path.{_≡_, refl, sym, ap, ap₂, _∙_}
-use mathlib.Core.Bool.{Bool, xor, _&&_}
+use mathlib.Core.Bool.{Bool, true, false, xor, _&&_}
 use Prim.Native.Nat.{ℕ, _/_, _%_, _<_}
 use borrow.Author.Tests.{eqb-true, eq-eqb, ne-eqb}
 use lib.Dec.{eqb}
-use Rattle.finite.proofs.Truth.{same-truth, and-false, both-equal, equal-both}
+use Rattle.finite.proofs.Truth.{clash, not-true, same-truth, and-false, both-equal, equal-both}
 use Rattle.gf2.specs.Xor.{_⊕_, pick}
 use Rattle.gf2.specs.Sum.{xorSum}
 use Rattle.gf2.proofs.Xor.{xor-zero-left}
 use Rattle.gf2.proofs.Sum.{sum-single, sum-zero}
 use Rattle.boxcode.specs.Code.{Code, Formed, cellNumber, jointWeight}
 use Rattle.boxcode.specs.Syndrome.{Cells, weightSum, Belongs, flip}
-use Rattle.boxcode.specs.Check.{dataOrder, dataSize, rank, dataCell, dataOf}
+use Rattle.boxcode.specs.Check.{checkAt, dataOrder, dataSize, rank, dataCell, dataOf}
 use Rattle.boxcode.proofs.Syndrome.{weight-flip, belongs-joint}
-use Rattle.boxcode.proofs.Check.{number-cell, row-inside, column-inside, data-below, data-rank}
+use Rattle.boxcode.proofs.Check.{number-cell, row-inside, column-inside, data-below, data-free, data-rank}
 use Rattle.boxcode.proofs.Image.{picked, unpicked}
 
 abbrev pub oneCell : ℕ → ℕ → Cells
@@ -45,6 +46,14 @@ module _ (c : Code) (F : Formed c) where
       weight-flip (c .n1) (c .n2) (jointWeight c) s (oneCell i j)
       ∙ ap₂ _⊕_ (belongs-joint c F s b) (one-weight (c .n1) (c .n2) (jointWeight c) i j li lj)
       ∙ xor-zero-left (jointWeight c i j)
+
+  pub check-data : (i j : ℕ) → checkAt c (cellNumber c i j) ≡ true → (d : ℕ) → d < dataSize c → dataOf c (oneCell i j) d ≡ false
+  unfolding dataOf
+  check-data i j h d l =
+      not-true (oneCell i j (dataCell c d / c .n2) (dataCell c d % c .n2))
+      (λ e.
+      let w = both-equal i j (dataCell c d / c .n2) (dataCell c d % c .n2) e in
+      clash (ap (checkAt c) (sym (number-cell c (dataCell c d)) ∙ sym (ap₂ (cellNumber c) (w .0) (w .1))) ∙ h) (data-free c F d l))
 
   module _ (d : ℕ) (l : d < dataSize c) where
     pub row-on : dataCell c d / c .n2 < c .n1

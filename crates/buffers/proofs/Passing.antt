@@ -14,6 +14,9 @@
 --   read-zero, reads-pass    so do those before reading
 --   InForm, form-zero, forms-pass   the plan is accepted and the sheet of the right form: checks 1 to 11 and 13 pass exactly there
 --   MaySum, sum-zero, sums-pass     the same for the checks before the sums of a run
+--   ScansFit, scans-fit             what holds where checks 1 to 11 of two scans pass
+--   BothInForm, both-zero, boths-pass   both scans are of the right form: checks 1 to 11 and 13 of both pass exactly there
+--   MayReadTwo, two-zero, twos-pass     the same for the checks before reading two scans
 --
 -- Assumes nothing.
 use mathlib.Core.Path.{_≡_, sym, ap, ap₂, _∙_}
@@ -39,6 +42,7 @@ use Rattle.accept.specs.Verdict.{planVerdict, Accepted}
 use Rattle.accept.specs.Checked.{Checked}
 use Rattle.accept.proofs.Acceptance.{accepted-plan, plan-accepted}
 use Rattle.buffers.specs.Buffers.{lengthVerdict, unusedVerdict, sheetChecks, lengthChecks, writeChecks, readChecks, formChecks, sumsChecks}
+use Rattle.buffers.specs.Buffers.{scanLengths, scansUnused, scansChecks, readTwoChecks}
 
 pub stops : (u v : Verdict) {x : Verdict} → x ≡ u → (x .number ≡ 0 → ⊥) → x ≡ u orElse v
 stops u v {x} e h = e ∙ sym (else-first u v (λ z. h (ap (λ (y : Verdict). y .number) e ∙ z)))
@@ -201,3 +205,73 @@ pub sums-pass : (plan sheet sums : List ℕ) → MaySum plan sheet sums → sums
 unfolding sumsChecks
 sums-pass plan sheet sums m =
     else-second (formChecks plan sheet) _ (number-of (forms-pass plan sheet (m .right))) ∙ right-length 24 sums 8 (m .room)
+
+pub record ScansFit (plan first second : List ℕ) : Type 0 where
+  pub accepted : Accepted plan
+  pub first-size : length first ≡ sheetBytes (codeOf plan .n1) (codeOf plan .n2)
+  pub second-size : length second ≡ sheetBytes (codeOf plan .n1) (codeOf plan .n2)
+
+pub scans-fit : (plan first second : List ℕ) → scanLengths plan first second .number ≡ 0 → ScansFit plan first second
+unfolding scanLengths
+scans-fit plan first second e =
+    let p = else-zero (sheetChecks plan first) _ e in
+    let F = sheet-zero plan first (p .0) in
+    record { accepted = F .accepted; first-size = F .sheet-size; second-size = length-right 10 second _ (p .1) }
+
+pub record BothInForm (plan first second : List ℕ) : Type 0 where
+  pub accepted : Accepted plan
+  pub first-form : RightForm (codeOf plan .n1) (codeOf plan .n2) first
+  pub second-form : RightForm (codeOf plan .n1) (codeOf plan .n2) second
+
+lengths-both : (plan first second : List ℕ) → BothInForm plan first second → scanLengths plan first second ≡ accepted
+unfolding scanLengths
+lengths-both plan first second B =
+    let S : SheetFits plan first = record { accepted = B .accepted; sheet-size = B .first-form .size } in
+    else-second (sheetChecks plan first) _ (number-of (sheets-pass plan first S)) ∙ right-length 11 second _ (B .second-form .size)
+
+unused-both : (plan first second : List ℕ) → BothInForm plan first second → scansUnused (codeOf plan) first second ≡ accepted
+unused-both plan first second B =
+    let n1 = codeOf plan .n1 in
+    let n2 = codeOf plan .n2 in
+    else-second (unusedVerdict n1 n2 first) _ (number-of (right-unused n1 n2 first (B .first-form))) ∙ right-unused n1 n2 second (B .second-form)
+
+both-unused : (plan first second : List ℕ) → ScansFit plan first second → scansUnused (codeOf plan) first second .number ≡ 0
+    → BothInForm plan first second
+both-unused plan first second S e =
+    let n1 = codeOf plan .n1 in
+    let n2 = codeOf plan .n2 in
+    let p = else-zero (unusedVerdict n1 n2 first) _ e in
+    record {
+      accepted = S .accepted;
+      first-form = unused-right n1 n2 first (S .first-size) (p .0);
+      second-form = unused-right n1 n2 second (S .second-size) (p .1);
+    }
+
+pub both-zero : (plan first second : List ℕ) → scansChecks plan first second .number ≡ 0 → BothInForm plan first second
+unfolding scansChecks
+both-zero plan first second e =
+    let p = else-zero (scanLengths plan first second) _ e in
+    both-unused plan first second (scans-fit plan first second (p .0)) (p .1)
+
+pub boths-pass : (plan first second : List ℕ) → BothInForm plan first second → scansChecks plan first second ≡ accepted
+unfolding scansChecks
+boths-pass plan first second B =
+    else-second (scanLengths plan first second) _ (number-of (lengths-both plan first second B)) ∙ unused-both plan first second B
+
+pub record MayReadTwo (plan first second bits : List ℕ) : Type 0 where
+  pub both : BothInForm plan first second
+  pub bits-size : length bits ≡ rowBytes (dataSize (codeOf plan))
+
+pub two-zero : (plan first second bits : List ℕ) → readTwoChecks plan first second bits .number ≡ 0 → MayReadTwo plan first second bits
+unfolding readTwoChecks
+two-zero plan first second bits e =
+    let p = else-zero (scanLengths plan first second) _ e in
+    let q = else-zero (lengthVerdict 12 bits (rowBytes (dataSize (codeOf plan)))) _ (p .1) in
+    record { both = both-unused plan first second (scans-fit plan first second (p .0)) (q .1); bits-size = length-right 11 bits _ (q .0) }
+
+pub twos-pass : (plan first second bits : List ℕ) → MayReadTwo plan first second bits → readTwoChecks plan first second bits ≡ accepted
+unfolding readTwoChecks
+twos-pass plan first second bits m =
+    else-second (scanLengths plan first second) _ (number-of (lengths-both plan first second (m .both)))
+    ∙ else-second (lengthVerdict 12 bits (rowBytes (dataSize (codeOf plan)))) _ (number-of (right-length 12 bits _ (m .bits-size)))
+    ∙ unused-both plan first second (m .both)

@@ -12,6 +12,10 @@
 --   readChecks       the checks before reading: 1 to 12, and 13 of the sheet
 --   formChecks       checks 1 to 11, and 13 of the sheet: the plan is accepted, and the sheet is of the right form
 --   sumsChecks       the checks before the sums of a run: 1 to 11, 13 of the sheet, and 24
+--   scanLengths      checks 1 to 11, 11 for the first scan and then for the second
+--   scansUnused      check 13, of the first scan and then of the second
+--   scansChecks      checks 1 to 11 and 13 of two scans: the plan is accepted, and both are of the right form
+--   readTwoChecks    the checks before reading two scans: 1 to 11 of both, 12, and 13 of both
 --
 -- A string of k bits of data is stored as one row of k cells.
 use Prim.Native.Nat.{ℕ}
@@ -67,3 +71,16 @@ formChecks plan sheet = sheetChecks plan sheet orElse sheetUnused (codeOf plan) 
 
 unfoldable pub sumsChecks : List ℕ → List ℕ → List ℕ → Verdict
 sumsChecks plan sheet sums = formChecks plan sheet orElse sumsLength sums
+
+unfoldable pub scanLengths : (plan first second : List ℕ) → Verdict
+scanLengths plan first second = sheetChecks plan first orElse sheetLength (codeOf plan) second
+
+abbrev pub scansUnused : Code → (first second : List ℕ) → Verdict
+scansUnused c first second = sheetUnused c first orElse sheetUnused c second
+
+unfoldable pub scansChecks : (plan first second : List ℕ) → Verdict
+scansChecks plan first second = scanLengths plan first second orElse scansUnused (codeOf plan) first second
+
+unfoldable pub readTwoChecks : (plan first second bits : List ℕ) → Verdict
+readTwoChecks plan first second bits =
+    scanLengths plan first second orElse dataLength (codeOf plan) bits orElse scansUnused (codeOf plan) first second

@@ -2,7 +2,11 @@
 ghost use mathlib.Core.Path.{_≡_};
 ghost use lib.ListN.{length};
 ghost use Rattle.accept.specs.Checked.{Checked};
-ghost use Rattle.buffers.specs.Buffers.{sheetChecks, lengthChecks, writeChecks, readChecks, formChecks, sumsChecks};
+ghost use Rattle.plan.specs.Header.{Small};
+ghost use Rattle.plan.specs.Verdict.{_orElse_};
+ghost use Rattle.layout.specs.Cells.{sheetBytes};
+ghost use Rattle.buffers.specs.Buffers.{unusedVerdict, sheetChecks, lengthChecks, writeChecks, readChecks, formChecks, sumsChecks};
+ghost use Rattle.buffers.specs.Buffers.{scanLengths, scansChecks, readTwoChecks};
 use crate::lent::data_length;
 use crate::lent::data_unused;
 use crate::lent::sheet_length;
@@ -10,6 +14,7 @@ use crate::lent::sheet_unused;
 use crate::lent::sums_length;
 use accept::test::test;
 use plan::entry::header_of;
+use plan::header::Header;
 use plan::verdict::Verdict;
 use plan::verdict::or_else;
 
@@ -81,4 +86,62 @@ pub fn sums_checks(plan: &[u8], sheet: &[u8], sums: &[u8], words: &mut [u64]) ->
     let form = form_checks(plan, sheet, words);
     let room = sums_length(sums);
     or_else(form, room)
+}
+
+// The plan, and the lengths of two scans.
+fn scan_lengths(plan: &[u8], first: &[u8], second: &[u8], words: &mut [u64]) -> Verdict
+    requires { ⌜ length (now words) ≡ 2792 ⌝ }
+    ensures { λ r. ⌜ Checked (now (plan .entry)) (scanLengths (now (plan .entry)) (now (first .entry)) (now (second .entry))) r (now (words .exit)) ⌝ }
+{
+    let checked = sheet_checks(plan, first, words);
+    if checked.number != 0 {
+        return checked;
+    }
+    sheet_length(header_of(plan), second)
+}
+
+// Check 13, of two scans: which of them it was is not told.
+fn scans_unused(h: Header, first: &[u8], second: &[u8]) -> Verdict
+    requires { ⌜ Small h ⌝ }
+    requires { ⌜ length (now first) ≡ sheetBytes (h .n1) (h .n2) ⌝ }
+    requires { ⌜ length (now second) ≡ sheetBytes (h .n1) (h .n2) ⌝ }
+    ensures { λ r. ⌜ r ≡ unusedVerdict (h .n1) (h .n2) (now (first .entry)) orElse unusedVerdict (h .n1) (h .n2) (now (second .entry)) ⌝ }
+{
+    let one = sheet_unused(h, first);
+    let other = sheet_unused(h, second);
+    or_else(one, other)
+}
+
+// The plan, and that two scans are of the right form.
+pub fn scans_checks(plan: &[u8], first: &[u8], second: &[u8], words: &mut [u64]) -> Verdict
+    requires { ⌜ length (now words) ≡ 2792 ⌝ }
+    ensures { λ r. ⌜ Checked (now (plan .entry)) (scansChecks (now (plan .entry)) (now (first .entry)) (now (second .entry))) r (now (words .exit)) ⌝ }
+{
+    let lengths = scan_lengths(plan, first, second, words);
+    if lengths.number != 0 {
+        return lengths;
+    }
+    scans_unused(header_of(plan), first, second)
+}
+
+// The checks before reading two scans.
+pub fn read_two_checks(
+    plan: &[u8],
+    first: &[u8],
+    second: &[u8],
+    bits: &[u8],
+    words: &mut [u64],
+) -> Verdict
+    requires { ⌜ length (now words) ≡ 2792 ⌝ }
+    ensures { λ r. ⌜ Checked (now (plan .entry)) (readTwoChecks (now (plan .entry)) (now (first .entry)) (now (second .entry)) (now (bits .entry)))
+        r (now (words .exit)) ⌝ }
+{
+    let lengths = scan_lengths(plan, first, second, words);
+    if lengths.number != 0 {
+        return lengths;
+    }
+    let h = header_of(plan);
+    let size = data_length(h, bits);
+    let unused = scans_unused(h, first, second);
+    or_else(size, unused)
 }

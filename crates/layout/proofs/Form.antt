@@ -1,6 +1,7 @@
 -- Cells and bytes. Demands on bytes follow from demands on cells by these laws:
 --
 --   byte-inside, byte-row, byte-place, byte-digit   the byte of a cell: below the size, its row, its place there, the cell's digit
+--   row-some                                        where a byte is in the sheet, a row has bytes
 --   cell-row, cell-column, cell-byte                the cell of a byte's digit
 --   same-bytes                 two lists of the right form with equal cells are equal
 --   bytes-form, bytes-cell     the bytes of cells p are of the right form and have the cells p
@@ -52,9 +53,9 @@ module _ (n2 j : ℕ) (lj : j < n2) where
 -- ---- the cell of a byte's digit
 
 module _ (n1 n2 k : ℕ) (lk : k < sheetBytes n1 n2) where
-  some : 0 < rowBytes n2
+  pub row-some : 0 < rowBytes n2
   unfolding sheetBytes
-  some = go (rowBytes n2) lk
+  row-some = go (rowBytes n2) lk
     where
       go : (m : ℕ) → k < n1 * m → 0 < m
       go zero l = absurd (let e : n1 * 0 ≡ 0 = omega arith in omega arith)
@@ -62,7 +63,7 @@ module _ (n1 n2 k : ℕ) (lk : k < sheetBytes n1 n2) where
 
   pub cell-row : k / rowBytes n2 < n1
   unfolding sheetBytes
-  cell-row = div-lt-iff-lt-mul some .1 lk
+  cell-row = div-lt-iff-lt-mul row-some .1 lk
 
   pub cell-column : (t : ℕ) → t < usedBits n2 k → 8 * (k % rowBytes n2) + t < n2
   unfolding usedBits

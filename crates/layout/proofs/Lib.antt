@@ -1,4 +1,5 @@
 -- The laws of the definitions of specs/.
+pub mod Agreement
 pub mod Form
 pub mod Overwriting
 pub mod Turned

@@ -6,25 +6,31 @@
 --   turned-bytes          so the bytes of cells p become those of p with the cell turned
 --   turned-if-bytes       the same where the cell is turned only if b holds
 --   turned-if-length      the number of bytes is kept
+--   turned-if-byte        each byte is as byteTurned tells
+--   bit-turned            as the code has it: 1 shifted is a power of two, and 0 shifted turns nothing over
+--   byte-stays            a byte that does not hold the cell stays
 --
 -- Assumes nothing.
 use mathlib.Core.Path.{_≡_, refl, sym, ap, ap₂, _∙_}
-use mathlib.Core.Bool.{Bool, true, false, xor, _&&_}
+use mathlib.Core.Bool.{Bool, true, false, cond, xor, _&&_}
 use mathlib.Core.List.{List}
-use Prim.Native.Nat.{ℕ, _/_, _%_, _^_, _<_}
+use Prim.Native.Nat.{ℕ, _*_, _/_, _%_, _^_, _<_}
+use native.Mathlib.Nat.{one-mul, zero-mul}
 use native.Mathlib.Decide.{ℕ-discrete}
 use native.Mathlib.Omega.{arith}
 use borrow.Author.Tests.{eq-eqb, ne-eqb}
+use lib.Bits.{bitXor, xor-zero-r}
 use lib.Dec.{eqb}
 use lib.ListN.{length, getD, set, length-set}
 use lib.Seq.{getD-set-same, getD-set-other}
-use lib.Pow.{pow-lt}
+use lib.Pow.{pow-lt, shl-exact}
+use mir.Val.{boolByte}
 use Rattle.finite.specs.Search.{bit}
 use Rattle.finite.proofs.Digits.{bit-power}
 use Rattle.finite.proofs.Truth.{xor-none}
 use Rattle.gf2.specs.Xor.{_⊕_}
 use Rattle.gf2.proofs.Xor.{xor-below, bit-xor}
-use Rattle.layout.specs.Cells.{rowBytes, sheetBytes, byteOf, cellOf, usedBits, RightForm, bytesOf, turned, turnedIf}
+use Rattle.layout.specs.Cells.{rowBytes, sheetBytes, byteOf, cellOf, usedBits, RightForm, bytesOf, turned, turnedIf, byteTurned}
 use Rattle.layout.proofs.Form.{byte-inside, byte-row, byte-place, byte-digit, bytes-form, bytes-cell, bytes-equal, same-bytes}
 
 -- ---- the cell turned over
@@ -118,3 +124,24 @@ pub turned-if-length : (b : Bool) (n2 : ℕ) (s : List ℕ) (i j : ℕ) → leng
 unfolding turned
 turned-if-length true n2 s i j = simp length-set
 turned-if-length false n2 s i j = refl
+
+pub turned-if-byte : (b : Bool) (n2 : ℕ) (s : List ℕ) (i j k : ℕ) → k < length s → getD (turnedIf b n2 s i j) k 0 ≡ byteTurned b n2 i j k (getD s k 0)
+unfolding turned
+turned-if-byte true n2 s i j k l = go (ℕ-discrete (byteOf n2 i j) k)
+  where
+    x : ℕ
+    x = getD s (byteOf n2 i j) 0 ⊕ 2 ^ (j % 8)
+
+    go : Dec (byteOf n2 i j ≡ k) → getD (set s (byteOf n2 i j) x) k 0 ≡ byteTurned true n2 i j k (getD s k 0)
+    go (yes e) = rw (← e, eq-eqb _ _ refl) (getD-set-same s (byteOf n2 i j) x 0 (omega (arith, e)))
+    go (no h) = rw (ne-eqb _ _ h) (getD-set-other s (byteOf n2 i j) k x 0 (λ e. h (sym e)))
+turned-if-byte false n2 s i j k l = refl
+
+pub byte-stays : (b : Bool) (n2 i j k x : ℕ) → (byteOf n2 i j ≡ k → ⊥) → byteTurned b n2 i j k x ≡ x
+byte-stays true n2 i j k x h = rw (ne-eqb (byteOf n2 i j) k h)
+byte-stays false n2 i j k x h = refl
+
+pub bit-turned : (x j : ℕ) (b : Bool) → bitXor x (boolByte b * 2 ^ (j % 8) % 256) ≡ cond b (x ⊕ 2 ^ (j % 8)) x
+unfolding _⊕_
+bit-turned x j true = rw (shl-exact {a = 1} 1 (j % 8) 8 (omega arith) (omega arith), one-mul (2 ^ (j % 8)))
+bit-turned x j false = rw (zero-mul (2 ^ (j % 8)), xor-zero-r x)

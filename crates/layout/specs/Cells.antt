@@ -11,13 +11,14 @@
 --   bytesOf n1 n2 p      the bytes of the right form with the cells p
 --   turned n2 s i j      the bytes s with cell (i, j) turned over
 --   turnedIf b n2 s i j  the same if b holds, else s
+--   byteTurned b n2 i j k x   what byte k, of the value x, becomes by that
 --
 -- A string of k bits of data is stored as one row of k cells.
 use Prim.Native.Nat.{ℕ, zero, suc, _+_, _-_, _*_, _/_, _%_, _^_, _<_, min}
 use mathlib.Core.Path.{_≡_}
-use mathlib.Core.Bool.{Bool, cond}
+use mathlib.Core.Bool.{Bool, cond, _&&_}
 use mathlib.Core.List.{List, [], _∷_, _++_}
-use lib.Dec.{leb}
+use lib.Dec.{leb, eqb}
 use lib.ListN.{length, getD, set}
 use Rattle.finite.specs.Search.{bit, numberOf, least}
 use Rattle.gf2.specs.Xor.{_⊕_}
@@ -64,3 +65,6 @@ turned n2 s i j = set s (byteOf n2 i j) (getD s (byteOf n2 i j) 0 ⊕ 2 ^ (j % 8
 
 abbrev pub turnedIf : Bool → ℕ → List ℕ → ℕ → ℕ → List ℕ
 turnedIf b n2 s i j = cond b (turned n2 s i j) s
+
+abbrev pub byteTurned : Bool → ℕ → ℕ → ℕ → ℕ → ℕ → ℕ
+byteTurned b n2 i j k x = cond (b && eqb (byteOf n2 i j) k) (x ⊕ 2 ^ (j % 8)) x

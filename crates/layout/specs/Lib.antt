@@ -1,3 +1,4 @@
 -- What stands in the bytes of a plan and of a sheet.
 pub mod Number
 pub mod Cells
+pub mod Differ

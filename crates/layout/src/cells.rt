@@ -2,7 +2,7 @@
 ghost use mathlib.Core.Path.{_≡_};
 ghost use Prim.Native.Nat.{_^_, _≤_, _<_};
 ghost use lib.ListN.{length, replicate};
-ghost use Rattle.layout.specs.Cells.{rowBytes, sheetBytes, byteOf, cellOf, firstUnused, turned, turnedIf};
+ghost use Rattle.layout.specs.Cells.{rowBytes, sheetBytes, byteOf, cellOf, firstUnused, turned, turnedIf, byteTurned};
 
 // The bytes of a row of n2 cells.
 pub fn row_bytes(n2: usize) -> usize
@@ -45,6 +45,17 @@ pub fn turn_if(s: &mut [u8], n2: usize, i: usize, j: usize, asked: bool)
 {
     let k = byte_of(n2, i, j);
     s[k] = s[k] ^ ((asked as u8) << (j % 8));
+}
+
+// What byte k becomes, of the value x, if cell (i, j) is turned over where that is asked for: another byte stays as it is.
+pub fn byte_turned(x: u8, k: usize, n2: usize, i: usize, j: usize, asked: bool) -> u8
+    requires { ⌜ (n2 ≤ 1000000) × (byteOf n2 i j < 2 ^ 64) ⌝ }
+    ensures { λ r. ⌜ r ≡ byteTurned asked n2 i j k x ⌝ }
+{
+    if byte_of(n2, i, j) != k {
+        return x;
+    }
+    x ^ ((asked as u8) << (j % 8))
 }
 
 // All cells light.

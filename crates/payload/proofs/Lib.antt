@@ -6,3 +6,4 @@ pub mod Stand
 pub mod Run
 pub mod Progress
 pub mod Placed
+pub mod CellBit

@@ -6,7 +6,8 @@
 --   row-bits, bits-row   the cells of a row are those that have as many data cells before them as the row has bits
 --   row-rank           the data bit of a cell of the row
 --   bit-inside, bit-twice   turned or not, a bit of the row stays one, and turned twice it is itself
---   row-on, bit-room, bit-below, holds-at   so the cell of a data bit is found from its row and the row's ends
+--   row-on, bit-room, bit-below, bit-rank   the data bit of a cell, from its row and the row's ends
+--   holds-at           so the cell of a data bit is found
 --
 -- Assumes nothing.
 use mathlib.Core.Path.{_≡_, refl, sym, ap, _∙_}
@@ -150,6 +151,10 @@ module _ (c : Code) (F : Formed c) where
         let u : dataBefore c ((t / c .n2 + 1) * c .n2) ≤ dataBefore c (c .n1 * c .n2) = data-mono ((t / c .n2 + 1) * c .n2) (c .n1 * c .n2) m in
         let e = data-all in
         omega arith
+
+    pub bit-rank : dataBit (t / c .n2) d (rowEnds c (t / c .n2)) ≡ rank c (dataOrder c t)
+    bit-rank =
+        ap (λ (x : ℕ). dataBit (t / c .n2) x (rowEnds c (t / c .n2))) (sym (S .before)) ∙ row-rank (t / c .n2) t (S .free) row-from row-to
 
     -- the cell t' that has as many data cells before it as the row's bits tell
     module _ (t' : ℕ) (S' : Follows c (dataBit (t / c .n2) d (rowEnds c (t / c .n2))) t') where

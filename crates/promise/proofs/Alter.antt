@@ -13,10 +13,10 @@ use borrow.Author.Tests.{eq-eqb, ne-eqb, le-leb}
 use lib.Dec.{eqb}
 use Rattle.finite.proofs.Truth.{not-true, xor-none, xor-dark, xor-comm, xor-assoc}
 use Rattle.layout.specs.Cells.{cellOf}
-use Rattle.layout.proofs.Form.{bytes-form, same-bytes}
+use Rattle.layout.proofs.Form.{same-bytes}
 use Rattle.layout.proofs.Turned.{turned-form}
 use Rattle.boxcode.specs.Code.{Code, Formed, cellNumber}
-use Rattle.boxcode.specs.Check.{checkAt, dataOrder, dataSize, rank, dataCell, dataOf, belongs}
+use Rattle.boxcode.specs.Check.{checkAt, dataOrder, dataSize, rank, dataCell, belongs}
 use Rattle.boxcode.proofs.Check.{number-on, rank-below, rank-data, data-free, data-rank}
 use Rattle.boxcode.proofs.Fill.{cell-data}
 use Rattle.boxcode.proofs.Written.{belongs-true}
@@ -35,7 +35,7 @@ use Rattle.alter.proofs.Turned.{turned-bit}
 use Rattle.promise.specs.Promise.{Passes, DataFor, SheetFor, cellsOf, BelongsTo, dataIn, Written}
 use Rattle.promise.specs.Alter as promise
 use Rattle.promise.specs.Alter.{PositionIn, PositionsIn, HoldsBit, IsCheck, turnedAt, alterEach, turnedEach, times, Alteration}
-use Rattle.promise.proofs.Corrupted.{data-bit}
+use Rattle.promise.proofs.Corrupted.{data-form, data-bit}
 use Rattle.promise.proofs.Promise.{written-once}
 
 -- ---- one alteration
@@ -46,11 +46,7 @@ afresh plan sheet d P S B l =
     let passed = alters-pass plan sheet d (record { right = record { accepted = accepted-plan plan P; form = S }; below = l; belongs = B }) in
     alter-done plan sheet d (ap (λ (v : Verdict). v .number) passed) ∙ ap (λ (v : Verdict). altered v (alteredBytes plan sheet d)) passed
 
--- the data that a sheet holds is of the right form, and so it is with a bit turned over
-data-form : (plan sheet : List ℕ) → DataFor plan (dataIn plan sheet)
-unfolding dataIn
-data-form plan sheet = bytes-form 1 (dataSize (codeOf plan)) (λ i d. dataOf (codeOf plan) (cellsOf plan sheet) d)
-
+-- data with a bit turned over is of the right form
 turned-data-form : (plan bits : List ℕ) (d : ℕ) → DataFor plan bits → PositionIn plan d → DataFor plan (turnedAt plan d bits)
 turned-data-form plan bits d f l = turned-form 1 (dataSize (codeOf plan)) bits f 0 d (omega arith) l
 

@@ -1,17 +1,22 @@
 -- The answers of the calls, taken apart: one declaration for each theorem of specs/Answer.antt, of that type.
 --
---   plan-carries, make-carries, write-carries, read-carries, sums-carries, alter-carries
+--   plan-carries, make-carries, write-carries, read-carries, sums-carries, alter-carries, two-carries, difference-carries
 --
 -- Assumes nothing.
-use Rattle.answer.proofs.Fields.{packed-carries}
+use Prim.Native.Nat.{_-_}
+use native.Mathlib.Omega.{arith}
+use Rattle.answer.proofs.Fields.{packed-carries, part-carries}
 use Rattle.accept.specs.Verdict.{planVerdict}
 use Rattle.maker.specs.Make.{make}
 use Rattle.writer.specs.Write.{write}
 use Rattle.reader.specs.Read.{readOutcome}
 use Rattle.runsums.specs.RunSums.{sumRun}
 use Rattle.alter.specs.Alter.{alter}
+use Rattle.scans.specs.ReadTwo.{readTwo}
+use Rattle.difference.specs.Difference.{difference}
 use Rattle.sheet.specs.Calls.{verdictFields, reportFields, planAnswer, makeCall, writeCall, readCall, sumsCall, alterCall}
-use Rattle.sheet.proofs.Ranges.{plan-range, make-range, write-range, read-range, sums-range, alter-range}
+use Rattle.sheet.specs.Calls.{readTwoCall, differenceAnswer}
+use Rattle.sheet.proofs.Ranges.{plan-range, make-range, write-range, read-range, sums-range, alter-range, two-range, part-range}
 use Rattle.promise.specs.Answer as promise
 
 pub plan-carries : promise.PlanCarries
@@ -40,3 +45,14 @@ sums-carries plan sheet first past sums =
 pub alter-carries : promise.AlterCarries
 unfolding alterCall
 alter-carries plan sheet d = packed-carries (verdictFields (alter plan sheet d .verdict)) (alter-range plan sheet d)
+
+pub two-carries : promise.TwoCarries
+unfolding readTwoCall
+two-carries plan first second bits = packed-carries (verdictFields (readTwo plan first second bits .verdict)) (two-range plan first second bits)
+
+pub difference-carries : promise.DifferenceCarries
+unfolding differenceAnswer
+difference-carries plan first second =
+    let p = difference plan first second in
+    let f = part-range plan first second in
+    part-carries (p .start) (p .end - p .start) (omega arith) (omega arith)

@@ -3,6 +3,7 @@
 --   corrupted-form, corrupted-cell   the sheet with a burst's cells turned over is of the right form, and its cells
 --   corrupted-none, corrupted-back   turning over nothing, or the same cells twice, gives the sheet back
 --   fits-cells, cells-fit        a burst fits the bytes exactly where it fits their cells
+--   data-form                    the data that a sheet holds is of the right form
 --   data-bit                     the bits of the data that a sheet holds
 --   data-held                    a sheet that has the bits of some data holds that data
 --
@@ -53,6 +54,10 @@ corrupted-back plan sheet e f =
     ∙ xor-back (cellsOf plan sheet i j) (e i j))
 
 -- ---- data: one row of k cells
+
+pub data-form : (plan sheet : List ℕ) → DataFor plan (dataIn plan sheet)
+unfolding dataIn
+data-form plan sheet = bytes-form 1 (dataSize (codeOf plan)) (λ i d. dataOf (codeOf plan) (cellsOf plan sheet) d)
 
 pub data-bit : (plan sheet : List ℕ) (d : ℕ) → d < dataSize (codeOf plan)
     → dataBits (dataSize (codeOf plan)) (dataIn plan sheet) d ≡ dataOf (codeOf plan) (cellsOf plan sheet) d

@@ -6,3 +6,5 @@ pub mod Answer
 pub mod House
 pub mod Sums
 pub mod Alter
+pub mod TwoScans
+pub mod Difference

@@ -7,9 +7,11 @@
 --   ReadCarries    reading: the number, the places and the reader's five numbers
 --   SumsCarries    asking for the sums of a run: the number and the places of its verdict, and five zeros
 --   AlterCarries   altering: likewise
-use Prim.Native.Nat.{ℕ}
+--   TwoCarries     reading two scans: likewise
+--   DifferenceCarries   asking where two scans first differ: the byte of the second scan where the part starts, and the part's length
+use Prim.Native.Nat.{ℕ, _-_}
 use mathlib.Core.List.{List}
-use Rattle.answer.specs.Answer.{Carries}
+use Rattle.answer.specs.Answer.{Carries, PartCarries}
 use Rattle.accept.specs.Verdict.{planVerdict}
 use Rattle.maker.specs.declared.parameters.Parameters.{Parameters}
 use Rattle.maker.specs.Make.{make}
@@ -17,7 +19,10 @@ use Rattle.writer.specs.Write.{write}
 use Rattle.reader.specs.Read.{readOutcome}
 use Rattle.runsums.specs.RunSums.{sumRun}
 use Rattle.alter.specs.Alter.{alter}
+use Rattle.scans.specs.ReadTwo.{readTwo}
+use Rattle.difference.specs.Difference.{difference}
 use Rattle.sheet.specs.Calls.{verdictFields, reportFields, planAnswer, makeCall, writeCall, readCall, sumsCall, alterCall}
+use Rattle.sheet.specs.Calls.{readTwoCall, differenceAnswer}
 
 abbrev pub PlanCarries : Type 0
 PlanCarries = (plan : List ℕ) → Carries (planAnswer plan) (verdictFields (planVerdict plan))
@@ -39,3 +44,11 @@ SumsCarries = (plan sheet : List ℕ) (first past : ℕ) (sums : List ℕ)
 
 abbrev pub AlterCarries : Type 0
 AlterCarries = (plan sheet : List ℕ) (d : ℕ) → Carries (alterCall plan sheet d .answer) (verdictFields (alter plan sheet d .verdict))
+
+abbrev pub TwoCarries : Type 0
+TwoCarries = (plan first second bits : List ℕ)
+    → Carries (readTwoCall plan first second bits .answer) (verdictFields (readTwo plan first second bits .verdict))
+
+abbrev pub DifferenceCarries : Type 0
+DifferenceCarries = (plan first second : List ℕ)
+    → let p = difference plan first second in PartCarries (differenceAnswer plan first second) (p .start) (p .end - p .start)

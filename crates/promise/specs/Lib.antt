@@ -4,3 +4,5 @@ pub mod Answer
 pub mod House
 pub mod Sums
 pub mod Alter
+pub mod TwoScans
+pub mod Difference

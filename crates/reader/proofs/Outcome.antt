@@ -6,13 +6,17 @@
 --   burst-on            the rectangle of a burst that was found lies on the sheet
 --   burst-sheet, burst-bits, burst-report   turning it over gives the mended sheet; the data of those bytes; its report
 --   burst-taken         all of a read that succeeds
+--   data-first, data-next, data-all   the data taken with nothing written to the sheet: before the first digit, one digit on, and after all
 --
 -- Assumes nothing.
-use mathlib.Core.Path.{_≡_, sym, ap, _∙_}
+use mathlib.Core.Path.{_≡_, refl, sym, ap, _∙_}
 use mathlib.Core.Bool.{xor}
 use mathlib.Core.List.{List}
-use Prim.Native.Nat.{ℕ}
+use Prim.Native.Nat.{ℕ, _+_, _*_, _/_, _%_, _<_}
+use native.Mathlib.Numerals.{add-one}
+use native.Mathlib.Omega.{arith}
 use borrow.Author.Tests.{ne-eqb}
+use Rattle.finite.specs.Search.{bit}
 use Rattle.layout.specs.Cells.{RightForm, cellOf, bytesOf}
 use Rattle.layout.proofs.Form.{bytes-cell, bytes-equal}
 use Rattle.boxcode.specs.Code.{Code, Formed}
@@ -26,6 +30,9 @@ use Rattle.plan.specs.Verdict.{accepted, refusal}
 use Rattle.plan.specs.Bytes.{codeOf}
 use Rattle.plan.proofs.Sequence.{else-first, else-second}
 use Rattle.buffers.specs.Buffers.{readChecks}
+use Rattle.payload.specs.Packed.{packedData}
+use Rattle.payload.specs.Placed.{bitTurnedIf}
+use Rattle.payload.proofs.CellBit.{held-turned-if}
 use Rattle.mend.specs.declared.report.Report.{Report}
 use Rattle.mend.specs.declared.found.Found.{Found}
 use Rattle.mend.specs.declared.found.Found.the-variants.{Burst, Nothing}
@@ -33,9 +40,9 @@ use Rattle.mend.specs.Found.{foundVerdict, IsBurst, FoundFor}
 use Rattle.mend.specs.Report.{boxReport, reportAs}
 use Rattle.mend.proofs.First.{first-report}
 use Rattle.mend.proofs.Rectangle.{found-report}
-use Rattle.reader.specs.Turn.{Rectangle, boxTurned}
+use Rattle.reader.specs.Turn.{Rectangle, digitsTurned, boxTurned}
 use Rattle.reader.specs.Read.{burstIn, readVerdict, sheetRead, bitsRead, reportRead, refused, taken, mendOutcome, readOutcome}
-use Rattle.reader.proofs.Turned.{box-turned}
+use Rattle.reader.proofs.Turned.{digit-row, digit-column, digits-form, box-turned}
 
 -- ---- which checks decide
 
@@ -97,3 +104,29 @@ module _ (c : Code) (F : Formed c) (s : List ℕ) (f : RightForm (c .n1) (c .n2)
       let e = er ∙ burst-report in
       let eb = eu ∙ burst-bits c F s t es in
       λ i. record { verdict = ev i; report = e i; sheet = es i; bits = eb i }
+
+  -- ---- the data, with the bits of the burst's cells turned over one after the other
+
+  -- the data of the sheet after the first k digits
+  abbrev pub dataAfter : ℕ → List ℕ
+  dataAfter k = packedData c (cellOf (c .n2) (digitsTurned (c .n2) s top left (c .b2) x k))
+
+  pub data-first : packedData c (cellOf (c .n2) s) ≡ dataAfter 0
+  unfolding digitsTurned
+  data-first = refl
+
+  pub data-next : (u v : List ℕ) (k : ℕ) → k < c .b1 * c .b2 → u ≡ dataAfter k
+      → v ≡ bitTurnedIf (bit x k) c (top + k / c .b2) (left + k % c .b2) u → v ≡ dataAfter (k + 1)
+  unfolding digitsTurned
+  data-next u v k l e h =
+      h
+      ∙ ap (bitTurnedIf (bit x k) c (top + k / c .b2) (left + k % c .b2)) e
+      ∙ sym
+      (held-turned-if c F (top + k / c .b2) (left + k % c .b2) (digit-row (c .n1) (c .n2) top left (c .b1) (c .b2) (F .b2-pos) burst-on k l)
+      (digit-column (c .n1) (c .n2) top left (c .b1) (c .b2) (F .b2-pos) burst-on k) (bit x k) (digitsTurned (c .n2) s top left (c .b2) x k)
+      (digits-form top left (c .b1) (c .b2) x (F .b2-pos) (c .n1) (c .n2) s f burst-on k (omega arith)))
+      ∙ ap dataAfter (sym (add-one k))
+
+  pub data-all : dataAfter (c .b1 * c .b2) ≡ bitsRead c s
+  unfolding boxTurned
+  data-all = burst-bits c F s (boxTurned (c .n2) s top left (c .b1) (c .b2) x) burst-sheet

@@ -1,29 +1,33 @@
 -- A burst turned over, digit by digit, turns over the cells of its pattern number and no others.
 --
 --   digit-row, digit-column    the cell of a digit lies on the sheet
---   digits-length              the number of bytes stays
+--   digit-byte                 and its byte is one of the rectangle's rows
+--   rows-most                  the bytes of those rows and of the rows above are few
+--   digits-length, box-length  the number of bytes stays
 --   digits-form, digits-cell   after the first n digits: the right form is kept, and the cells of those digits are turned over
 --   box-turned                 after all digits the bytes are those of the sheet with the pattern's cells turned over
 --   digits-none, digits-next   where the loop begins, and one turn of it
+--   byte-none, byte-next       the same of one byte
+--   byte-above, byte-below     a byte of a row that the rectangle does not touch stays
 --
 -- Assumes nothing.
 use mathlib.Core.Path.{_≡_, refl, sym, ap, ap₂, _∙_}
 use mathlib.Core.Bool.{Bool, true, false, xor, _&&_}
 use mathlib.Core.List.{List}
 use Prim.Native.Nat.{ℕ, zero, suc, _+_, _-_, _*_, _/_, _%_, _≤_, _<_}
-use native.Mathlib.Nat.{div-lt-iff-lt-mul, mod-lt, div-add-mod'}
+use native.Mathlib.Nat.{div-lt-iff-lt-mul, mod-lt, div-add-mod', mul-le-mul, mul-le-mul-right}
 use native.Mathlib.Numerals.{add-one}
 use native.Mathlib.Decide.{ℕ-discrete, decLt}
 use native.Mathlib.Omega.{arith}
 use borrow.Author.Tests.{eq-eqb, ne-eqb, lt-ltb, le-ltb}
 use lib.Dec.{eqb, ltb}
-use lib.ListN.{length}
+use lib.ListN.{length, getD}
 use lib.Arith.{digits-lt, digits-div, digits-mod}
 use Rattle.finite.specs.Search.{bit}
 use Rattle.finite.proofs.Truth.{Truth, is-true, is-false, true-or-false, xor-none, in-within}
-use Rattle.layout.specs.Cells.{RightForm, cellOf, bytesOf, turnedIf}
-use Rattle.layout.proofs.Form.{same-bytes, bytes-form, bytes-cell}
-use Rattle.layout.proofs.Turned.{turned-if-form, turned-if-cell, turned-if-length}
+use Rattle.layout.specs.Cells.{rowBytes, sheetBytes, byteOf, RightForm, cellOf, bytesOf, turnedIf, byteTurned}
+use Rattle.layout.proofs.Form.{byte-inside, same-bytes, bytes-form, bytes-cell}
+use Rattle.layout.proofs.Turned.{turned-if-form, turned-if-cell, turned-if-length, turned-if-byte, byte-stays}
 use Rattle.boxcode.specs.Syndrome.{Cells, flip}
 use Rattle.boxcode.specs.Burst.{boxCells}
 use Rattle.boxcode.proofs.Trial.{box-inside}
@@ -38,6 +42,19 @@ module _ (n1 n2 top left b1 b2 : ℕ) (pos : 1 ≤ b2) (R : Rectangle n1 n2 top 
   pub digit-column : (k : ℕ) → left + k % b2 < n2
   digit-column k = let q : k % b2 < b2 = mod-lt k pos in let r = R .columns-on in omega arith
 
+  pub digit-byte : (k : ℕ) → k < b1 * b2 → byteOf n2 (top + k / b2) (left + k % b2) < (top + b1) * rowBytes n2
+  unfolding sheetBytes
+  digit-byte k l =
+      let q : k / b2 < b1 = div-lt-iff-lt-mul pos .1 l in
+      byte-inside n2 (left + k % b2) (digit-column k) (top + b1) (top + k / b2) (omega arith)
+
+  pub rows-most : (a w : ℕ) → w ≡ rowBytes n2 → a ≤ top + b1 → a * w ≤ 45056
+  unfolding rowBytes
+  rows-most a w e l =
+      let p : a ≤ 512 = omega (arith, R .rows-on, R .n1-most) in
+      let q : w ≤ 88 = omega (arith, R .n2-most) in
+      mul-le-mul p q
+
 -- ---- the number of bytes, and one turn of the loop
 
 pub digits-length : (n2 : ℕ) (s : List ℕ) (top left b2 x n : ℕ) → length (digitsTurned n2 s top left b2 x n) ≡ length s
@@ -45,6 +62,10 @@ unfolding digitsTurned
 digits-length n2 s top left b2 x zero = refl
 digits-length n2 s top left b2 x (suc k) =
     turned-if-length (bit x k) n2 (digitsTurned n2 s top left b2 x k) (top + k / b2) (left + k % b2) ∙ digits-length n2 s top left b2 x k
+
+pub box-length : (n2 : ℕ) (s : List ℕ) (top left b1 b2 x : ℕ) → length (boxTurned n2 s top left b1 b2 x) ≡ length s
+unfolding boxTurned
+box-length n2 s top left b1 b2 x = digits-length n2 s top left b2 x (b1 * b2)
 
 pub digits-none : (n2 : ℕ) (s : List ℕ) (top left b2 x : ℕ) → s ≡ digitsTurned n2 s top left b2 x 0
 unfolding digitsTurned
@@ -55,6 +76,51 @@ pub digits-next : (n2 : ℕ) (s t u : List ℕ) (top left b2 x k : ℕ) → t �
 unfolding digitsTurned
 digits-next n2 s t u top left b2 x k e h =
     h ∙ ap (λ (y : List ℕ). turnedIf (bit x k) n2 y (top + k / b2) (left + k % b2)) e ∙ ap (digitsTurned n2 s top left b2 x) (sym (add-one k))
+
+-- ---- one byte
+
+module _ (n2 : ℕ) (s : List ℕ) (top left b2 x k : ℕ) where
+  pub byte-none : getD s k 0 ≡ getD (digitsTurned n2 s top left b2 x 0) k 0
+  unfolding digitsTurned
+  byte-none = refl
+
+  pub byte-next : k < length s → (y z m : ℕ) → y ≡ getD (digitsTurned n2 s top left b2 x m) k 0
+      → z ≡ byteTurned (bit x m) n2 (top + m / b2) (left + m % b2) k y → z ≡ getD (digitsTurned n2 s top left b2 x (m + 1)) k 0
+  unfolding digitsTurned
+  byte-next l y z m e h =
+      h
+      ∙ ap (byteTurned (bit x m) n2 (top + m / b2) (left + m % b2) k) e
+      ∙ sym
+      (turned-if-byte (bit x m) n2 (digitsTurned n2 s top left b2 x m) (top + m / b2) (left + m % b2) k (omega (arith, digits-length n2 s top left b2 x m)))
+      ∙ ap (λ (n : ℕ). getD (digitsTurned n2 s top left b2 x n) k 0) (sym (add-one m))
+
+  -- the bytes of no digit
+  module _ (n1 b1 : ℕ) (pos : 1 ≤ b2) (R : Rectangle n1 n2 top left b1 b2) (l : k < length s) where
+    stays : ((m : ℕ) → m < b1 * b2 → byteOf n2 (top + m / b2) (left + m % b2) ≡ k → ⊥) → (m : ℕ) → m ≤ b1 * b2
+        → getD s k 0 ≡ getD (digitsTurned n2 s top left b2 x m) k 0
+    unfolding digitsTurned
+    stays h zero lm = refl
+    stays h (suc m) lm =
+        stays h m (omega arith)
+        ∙ sym
+        (turned-if-byte (bit x m) n2 (digitsTurned n2 s top left b2 x m) (top + m / b2) (left + m % b2) k (omega (arith, digits-length n2 s top left b2 x m))
+        ∙ byte-stays (bit x m) n2 (top + m / b2) (left + m % b2) k (getD (digitsTurned n2 s top left b2 x m) k 0) (h m (omega arith)))
+
+    pub byte-above : k < top * rowBytes n2 → getD s k 0 ≡ getD (boxTurned n2 s top left b1 b2 x) k 0
+    unfolding boxTurned byteOf
+    byte-above a =
+        stays
+        (λ m lm e.
+        let g : top * rowBytes n2 ≤ (top + m / b2) * rowBytes n2 = mul-le-mul-right (rowBytes n2) (omega arith) in
+        omega arith) (b1 * b2) (omega arith)
+
+    pub byte-below : (top + b1) * rowBytes n2 ≤ k → getD s k 0 ≡ getD (boxTurned n2 s top left b1 b2 x) k 0
+    unfolding boxTurned
+    byte-below b =
+        stays
+        (λ m lm e.
+        let g = digit-byte n1 n2 top left b1 b2 pos R m lm in
+        omega arith) (b1 * b2) (omega arith)
 
 -- ---- the cells after the first digits
 

@@ -8,12 +8,13 @@ ghost use Rattle.plan.specs.Bytes.{codeWith};
 ghost use Rattle.plan.specs.Table.{Unpacked};
 ghost use Rattle.plan.specs.Accepted.{AcceptedWith};
 ghost use Rattle.mend.specs.Found.{FoundFor, IsBurst};
-ghost use Rattle.reader.specs.Read.{outcome, taken};
+ghost use Rattle.reader.specs.Read.{outcome, taken, bitsRead};
 use crate::answer::Answer;
 use crate::turn::turn_box;
 use mend::find::find;
 use mend::found::Found;
 use mend::report::report_of;
+use payload::held::turn_bit_if;
 use payload::transfer::take;
 use plan::header::Header;
 use plan::verdict::accept;
@@ -58,5 +59,40 @@ pub fn apply_burst(
     Answer {
         verdict: accept(),
         report: report_of(top, left, h.b1, h.b2, x),
+    }
+}
+
+// The data of the sheet with that burst turned over, where the sheet keeps its bytes: the data of the sheet as it is, and then the bits of
+// the burst's cells turned over.
+pub fn take_mended(
+    plan: &[u8],
+    h: Header,
+    sheet: &[u8],
+    bits: &mut [u8],
+    top: usize,
+    left: usize,
+    x: u64,
+)
+    requires { ⌜ AcceptedWith (now plan) h ⌝ }
+    requires { ⌜ RightForm (h .n1) (h .n2) (now sheet) ⌝ }
+    requires { ⌜ length (now bits) ≡ rowBytes (dataSize (codeWith (now plan) h)) ⌝ }
+    requires { ⌜ (let c = codeWith (now plan) h in let s = cellOf (h .n2) (now sheet) in
+        IsBurst c (rowSyndrome c s) (columnSyndrome c s) top left x) ⌝ }
+    ensures { λ _. ⌜ now (bits .exit) ≡ bitsRead (codeWith (now (plan .entry)) h) (now (sheet .entry)) ⌝ }
+{
+    take(plan, h, sheet, bits);
+    let b2 = h.b2;
+    let size = h.b1 * b2;
+    let mut k = 0;
+    while k < size {
+        turn_bit_if(
+            plan,
+            h,
+            bits,
+            top + k / b2,
+            left + k % b2,
+            (x >> k) % 2 == 1,
+        );
+        k += 1;
     }
 }

@@ -1,9 +1,12 @@
 // A burst turned over on a sheet.
 ghost use mathlib.Core.Path.{_≡_};
-ghost use lib.ListN.{length};
+ghost use Prim.Native.Nat.{_<_};
+ghost use lib.ListN.{length, getD};
 ghost use Rattle.layout.specs.Cells.{sheetBytes};
 ghost use Rattle.mend.specs.Strip.{BurstSize};
 ghost use Rattle.reader.specs.Turn.{Rectangle, boxTurned};
+use layout::cells::byte_turned;
+use layout::cells::row_bytes;
 use layout::cells::turn_if;
 
 // Turns the cells of pattern number x over, in the rectangle of b1 rows and b2 columns at a top row and a left column:
@@ -29,4 +32,39 @@ pub fn turn_box(
         turn_if(sheet, n2, top + k / b2, left + k % b2, (x >> k) % 2 == 1);
         k += 1;
     }
+}
+
+// Byte k of the sheet with those cells turned over, where nothing is written. Only the rows of the rectangle are looked through.
+pub fn turned_byte(
+    sheet: &[u8],
+    n1: usize,
+    n2: usize,
+    top: usize,
+    left: usize,
+    b1: usize,
+    b2: usize,
+    x: u64,
+    k: usize,
+) -> u8
+    requires { ⌜ BurstSize b1 b2 ⌝ }
+    requires { ⌜ Rectangle n1 n2 top left b1 b2 ⌝ }
+    requires { ⌜ length (now sheet) ≡ sheetBytes n1 n2 ⌝ }
+    requires { ⌜ k < length (now sheet) ⌝ }
+    ensures { λ r. ⌜ r ≡ getD (boxTurned n2 (now (sheet .entry)) top left b1 b2 x) k 0 ⌝ }
+{
+    let size = row_bytes(n2);
+    let mut y = sheet[k];
+    if k < top * size {
+        return y;
+    }
+    if (top + b1) * size <= k {
+        return y;
+    }
+    let count = b1 * b2;
+    let mut m = 0;
+    while m < count {
+        y = byte_turned(y, k, n2, top + m / b2, left + m % b2, (x >> m) % 2 == 1);
+        m += 1;
+    }
+    y
 }

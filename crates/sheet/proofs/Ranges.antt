@@ -4,20 +4,23 @@
 --   read-fits     number and places of reading
 --   sums-fit      number and places of asking for the sums of a run; forms-fit, those of the checks that a sheet is of the right form
 --   alters-fit    number and places of altering
+--   two-fits      number and places of reading two scans
 --   report-fits   the reader's five numbers
---   plan-range, make-range, write-range, read-range, sums-range, alter-range   the fields of the answer of each call
+--   plan-range, make-range, write-range, read-range, sums-range, alter-range, two-range   the fields of the answer of each call
+--   part-range    start and length of the part in which two scans first differ
 --   made-range, made-packed   the answer of either call that makes a plan
 --
 -- Assumes nothing.
 use mathlib.Core.Path.{_≡_, refl, ap}
-use mathlib.Core.Bool.{Bool, true, false, not, cond}
+use mathlib.Core.Bool.{Bool, true, false, not, cond, _&&_, _||_}
 use mathlib.Core.List.{List}
-use Prim.Native.Nat.{ℕ, _<_, _≤_}
+use Prim.Native.Nat.{ℕ, _+_, _-_, _<_, _≤_}
 use native.Mathlib.Omega.{arith}
 use borrow.Author.Tests.{eqb-true}
 use lib.Dec.{eqb, leb}
 use lib.ListN.{length}
 use Rattle.layout.specs.Cells.{rowBytes, sheetBytes, firstUnused, cellOf}
+use Rattle.layout.specs.Differ.{agree}
 use Rattle.boxcode.specs.Code.{Code, Formed}
 use Rattle.boxcode.specs.Check.{dataSize, belongs}
 use Rattle.boxcode.specs.Reader.{change, noReport}
@@ -29,8 +32,8 @@ use Rattle.plan.specs.Bytes.{codeOf}
 use Rattle.accept.specs.Verdict.{planVerdict}
 use Rattle.accept.proofs.Range.{SmallVerdict, accepted-fits, else-fits, if-fits, at-fits, plan-fits}
 use Rattle.buffers.specs.Buffers.{lengthVerdict, unusedVerdict, sheetLength, dataLength, sumsLength}
-use Rattle.buffers.specs.Buffers.{sheetChecks, lengthChecks, writeChecks, readChecks, formChecks, sumsChecks}
-use Rattle.buffers.proofs.Passing.{bytes-most, size-most, sheet-zero, length-zero}
+use Rattle.buffers.specs.Buffers.{sheetChecks, lengthChecks, writeChecks, readChecks, formChecks, sumsChecks, scanLengths, readTwoChecks}
+use Rattle.buffers.proofs.Passing.{bytes-most, size-most, sheet-zero, length-zero, scans-fit}
 use Rattle.mend.specs.declared.report.Report.{Report}
 use Rattle.mend.specs.Report.{reportAs}
 use Rattle.mend.specs.declared.found.Found.{Found}
@@ -38,13 +41,17 @@ use Rattle.mend.specs.declared.found.Found.the-variants.{Burst, Nothing}
 use Rattle.mend.specs.Found.{foundVerdict}
 use Rattle.mend.proofs.First.{first-report}
 use Rattle.reader.proofs.Cases.{zero-reads}
-use Rattle.reader.specs.Read.{burstIn, readVerdict, reportRead, taken, refused, readOutcome}
+use Rattle.reader.specs.Read.{Outcome, burstIn, readVerdict, reportRead, taken, refused, readOutcome}
 use Rattle.maker.specs.declared.parameters.Parameters.{Parameters}
 use Rattle.maker.specs.Make.{Made, made, make}
 use Rattle.maker.proofs.Range.{make-fits}
 use Rattle.writer.specs.Write.{write}
 use Rattle.runsums.specs.RunSums.{sumRun}
+use Rattle.difference.specs.declared.Part.{Part}
+use Rattle.difference.specs.Difference.{difference}
+use Rattle.difference.proofs.Outcomes.{part-small}
 use Rattle.alter.specs.Alter.{positionVerdict, belongVerdict, alterChecks, alter}
+use Rattle.scans.specs.ReadTwo.{TwoRead, mends, noneVerdict, differVerdict, twoRead, decide, readTwo}
 use Rattle.answer.specs.Answer.{InRange, packed}
 use Rattle.sheet.specs.Calls.{verdictFields, reportFields, makeReply, makeCall}
 
@@ -117,6 +124,42 @@ alters-fit plan sheet d =
     else-fits (formChecks plan sheet) _ (forms-fit plan sheet)
     (λ _. else-fits (positionVerdict k d) _ (told-fits (leb k d) 17 (omega arith))
     (λ _. told-fits (not (belongs (codeOf plan) (cellOf (codeOf plan .n2) sheet))) 18 (omega arith)))
+
+-- checks 1 to 11 of two scans, and then others
+after-scans : (plan first second : List ℕ) (v : Verdict) → (Formed (codeOf plan) → SmallVerdict v) → SmallVerdict (scanLengths plan first second orElse v)
+unfolding scanLengths
+after-scans plan first second v f =
+    let c = codeOf plan in
+    else-fits (scanLengths plan first second) v
+    (else-fits (sheetChecks plan first) (sheetLength c second) (sheets-fit plan first) (λ _. length-fits 11 second (sheetBytes (c .n1) (c .n2)) (omega arith)))
+    (λ e. f (scans-fit plan first second e .accepted .formed))
+
+two-checks-fit : (plan first second bits : List ℕ) → SmallVerdict (readTwoChecks plan first second bits)
+unfolding readTwoChecks
+two-checks-fit plan first second bits =
+    let c = codeOf plan in
+    after-scans plan first second _
+    (λ F.
+    else-fits (dataLength c bits) _ (length-fits 12 bits (rowBytes (dataSize c)) (omega arith))
+    (λ _. else-fits (unusedVerdict (c .n1) (c .n2) first) (unusedVerdict (c .n1) (c .n2) second) (unused-fits (c .n1) (c .n2) first (sheet-bytes plan F))
+    (λ _. unused-fits (c .n1) (c .n2) second (sheet-bytes plan F))))
+
+-- checks 14 and 19
+decide-fits : (a b : Outcome) (bits : List ℕ) → SmallVerdict (decide a b bits .verdict)
+unfolding decide
+decide-fits a b bits =
+    else-fits (noneVerdict a b) (differVerdict a b) (told-fits (not (mends a || mends b)) 14 (omega arith))
+    (λ _. told-fits (mends a && (mends b && not (agree (a .bits) (b .bits)))) 19 (omega arith))
+
+pub two-fits : (plan first second bits : List ℕ) → SmallVerdict (readTwo plan first second bits .verdict)
+unfolding readTwo
+two-fits plan first second bits =
+    go (eqb (readTwoChecks plan first second bits .number) 0) (decide (readOutcome plan first bits) (readOutcome plan second bits) bits)
+    (decide-fits (readOutcome plan first bits) (readOutcome plan second bits) bits)
+  where
+    go : (t : Bool) (o : TwoRead) → SmallVerdict (o .verdict) → SmallVerdict (cond t o (twoRead (readTwoChecks plan first second bits) bits) .verdict)
+    go true o f = f
+    go false o f = two-checks-fit plan first second bits
 
 found-fits : (r : Found) → SmallVerdict (foundVerdict r)
 found-fits (Burst top left x) = accepted-fits
@@ -211,8 +254,21 @@ pub alter-range : (plan sheet : List ℕ) (d : ℕ) → InRange (verdictFields (
 unfolding alter
 alter-range plan sheet d = fields-range (alterChecks plan sheet d) (reportAs noReport) (alters-fit plan sheet d) none-fits
 
+pub two-range : (plan first second bits : List ℕ) → InRange (verdictFields (readTwo plan first second bits .verdict))
+two-range plan first second bits =
+    fields-range (readTwo plan first second bits .verdict) (reportAs noReport) (two-fits plan first second bits) none-fits
+
 pub read-range : (plan sheet bits : List ℕ)
     → InRange (reportFields (readOutcome plan sheet bits .verdict) (readOutcome plan sheet bits .report))
 read-range plan sheet bits =
     let o = readOutcome plan sheet bits in
     fields-range (o .verdict) (o .report) (read-fits plan sheet bits) (report-fits plan sheet bits)
+
+pub record PartFits (p : Part) : Type 0 where
+  pub ordered : p .start ≤ p .end
+  pub fits : p .start + (p .end - p .start) ≤ 45056
+
+pub part-range : (plan first second : List ℕ) → PartFits (difference plan first second)
+part-range plan first second =
+    let I = part-small plan first second in
+    record { ordered = I .ordered; fits = omega (arith, I .ordered, I .within) }

@@ -9,9 +9,11 @@
 --   ReadReply, readCall     the answer of reading, packed, and every byte of the sheet and of the data buffer after it
 --   SumsReply, sumsCall     the answer of asking for the sums of a run of rows, packed, and every byte of their buffer after it
 --   AlterReply, alterCall   the answer of altering one data bit, packed, and every byte of the sheet after it
-use Prim.Native.Nat.{ℕ}
+--   ReadTwoReply, readTwoCall   the answer of reading two scans, packed, and every byte of the data buffer after it
+--   differenceAnswer        the row where two scans first differ, packed: the byte of the second scan where it starts, and its length
+use Prim.Native.Nat.{ℕ, _-_}
 use mathlib.Core.List.{List}
-use Rattle.answer.specs.Answer.{Fields, placesFields, packed}
+use Rattle.answer.specs.Answer.{Fields, placesFields, packed, packedPart}
 use Rattle.plan.specs.declared.verdict.Verdict.{Verdict}
 use Rattle.mend.specs.declared.report.Report.{Report}
 use Rattle.accept.specs.Verdict.{planVerdict}
@@ -21,6 +23,8 @@ use Rattle.writer.specs.Write.{write}
 use Rattle.reader.specs.Read.{readOutcome}
 use Rattle.runsums.specs.RunSums.{sumRun}
 use Rattle.alter.specs.Alter.{alter}
+use Rattle.scans.specs.ReadTwo.{readTwo}
+use Rattle.difference.specs.Difference.{difference}
 
 abbrev pub verdictFields : Verdict → Fields
 verdictFields v = placesFields (v .number) (v .p) (v .q)
@@ -104,3 +108,18 @@ sumsReply a s = record { answer = a; sums = s }
 
 abbrev pub alterReply : ℕ → List ℕ → AlterReply
 alterReply a s = record { answer = a; sheet = s }
+
+pub record ReadTwoReply : Type 0 where
+  pub answer : ℕ
+  pub bits : List ℕ
+
+unfoldable pub readTwoCall : (plan first second bits : List ℕ) → ReadTwoReply
+readTwoCall plan first second bits =
+    let o = readTwo plan first second bits in
+    record { answer = packed (verdictFields (o .verdict)); bits = o .bits }
+
+unfoldable pub differenceAnswer : (plan first second : List ℕ) → ℕ
+differenceAnswer plan first second = let p = difference plan first second in packedPart (p .start) (p .end - p .start)
+
+abbrev pub readTwoReply : ℕ → List ℕ → ReadTwoReply
+readTwoReply a b = record { answer = a; bits = b }

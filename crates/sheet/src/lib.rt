@@ -3,17 +3,20 @@
 ghost use mathlib.Core.Path.{_≡_};
 ghost use Rattle.houseplan.specs.HousePlan.{houseParameters};
 ghost use Rattle.sheet.specs.Calls.{planAnswer, parameters, makeReply, makeCall, writeReply, writeCall, readReply, readCall};
-ghost use Rattle.sheet.specs.Calls.{sumsReply, sumsCall, alterReply, alterCall};
+ghost use Rattle.sheet.specs.Calls.{sumsReply, sumsCall, alterReply, alterCall, readTwoReply, readTwoCall, differenceAnswer};
 use accept::test::test;
 use alter::altering::alter;
 use answer::Answer;
 use answer::pack;
+use answer::pack_part;
 use answer::pack_places;
+use difference::differing_part;
 use houseplan::make_house;
 use maker::making::make;
 use maker::parameters::Parameters;
 use reader::read::read;
 use runsums::sum_run;
+use scans::reading::read_two;
 use writer::writing::write;
 
 // Tests a plan: the number and places of the first check of document 01 that fails, or 0.
@@ -115,4 +118,23 @@ pub extern "C" fn sheet_alter(plan: &[u8], sheet: &mut [u8], position: u32) -> u
 {
     let altered = alter(plan, sheet, position as usize);
     pack_places(altered.number, altered.p, altered.q)
+}
+
+// Reads two scans of one film, each with a burst of its own or none: writes the data, and leaves both scans as they are.
+#[no_mangle]
+pub extern "C" fn sheet_read_two(plan: &[u8], first: &[u8], second: &[u8], bits: &mut [u8]) -> u64
+    ensures { λ r. ⌜ readTwoReply r (now (bits .exit))
+        ≡ readTwoCall (now (plan .entry)) (now (first .entry)) (now (second .entry)) (now (bits .entry)) ⌝ }
+{
+    let told = read_two(plan, first, second, bits);
+    pack_places(told.number, told.p, told.q)
+}
+
+// The row where two scans of one film first differ, as it lies in the second scan: the byte where it starts, and its length.
+#[no_mangle]
+pub extern "C" fn sheet_first_difference(plan: &[u8], first: &[u8], second: &[u8]) -> u64
+    ensures { λ r. ⌜ r ≡ differenceAnswer (now (plan .entry)) (now (first .entry)) (now (second .entry)) ⌝ }
+{
+    let part = differing_part(plan, first, second);
+    pack_part(part.start, part.end - part.start)
 }

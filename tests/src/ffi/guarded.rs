@@ -2,7 +2,7 @@
 
 use std::ops::Range;
 
-use super::{alter, house_plan, plan_make, sums, Archive, SHEET};
+use super::{alter, first_difference, house_plan, plan_make, read_two, sums, Archive, SHEET};
 use crate::answer::Answer;
 use crate::given::Given;
 use crate::rng::Rng;
@@ -94,6 +94,32 @@ impl Library {
         plan.assert_unchanged();
         target.hand_back(answer, sheet);
         answer
+    }
+
+    pub fn read_two(&mut self, plan: &[u8], first: &[u8], second: &[u8], data: &mut [u8]) -> u64 {
+        let plan = Guarded::new("plan", plan, &mut self.rng);
+        let first = Guarded::new("first scan", first, &mut self.rng);
+        let second = Guarded::new("second scan", second, &mut self.rng);
+        let mut target = Guarded::new("data", data, &mut self.rng);
+        let (null, into) = (self.rng.one_in(2), target.content_mut());
+        let answer = read_two(plan.content(), first.content(), second.content(), into, null);
+        plan.assert_unchanged();
+        first.assert_unchanged();
+        second.assert_unchanged();
+        target.hand_back(answer, data);
+        answer
+    }
+
+    pub fn first_difference(&mut self, plan: &[u8], first: &[u8], second: &[u8]) -> u64 {
+        let plan = Guarded::new("plan", plan, &mut self.rng);
+        let first = Guarded::new("first scan", first, &mut self.rng);
+        let second = Guarded::new("second scan", second, &mut self.rng);
+        let null = self.rng.one_in(2);
+        let difference = first_difference(plan.content(), first.content(), second.content(), null);
+        plan.assert_unchanged();
+        first.assert_unchanged();
+        second.assert_unchanged();
+        difference
     }
 }
 

@@ -3,10 +3,12 @@
 mod alter;
 mod guarded;
 mod sums;
+mod two;
 
 pub use alter::{alter, alter_by_register};
 pub use guarded::Library;
 pub use sums::{sums, sums_by_registers};
+pub use two::{first_difference, part, read_two};
 
 use std::ptr;
 

@@ -19,6 +19,28 @@ pub fn check_reading(plan: &Plan, sheet: &[u8], data: &[u8]) -> Result<(), Answe
     unused_of_sheet(plan, sheet)
 }
 
+/// Reading two scans: checks 11 for each, 12, 13 for each.
+pub fn check_reading_two(
+    plan: &Plan,
+    first: &[u8],
+    second: &[u8],
+    data: &[u8],
+) -> Result<(), Answer> {
+    sheet_length(plan, first)?;
+    sheet_length(plan, second)?;
+    data_length(plan, data)?;
+    unused_of_sheet(plan, first)?;
+    unused_of_sheet(plan, second)
+}
+
+/// Finding where two scans differ: checks 11 and 13 for each.
+pub fn check_comparing(plan: &Plan, first: &[u8], second: &[u8]) -> Result<(), Answer> {
+    sheet_length(plan, first)?;
+    sheet_length(plan, second)?;
+    unused_of_sheet(plan, first)?;
+    unused_of_sheet(plan, second)
+}
+
 /// Summing a run: checks 11, 13 and 24.
 pub fn check_summing(plan: &Plan, sheet: &[u8], sums: &[u8]) -> Result<(), Answer> {
     sheet_length(plan, sheet)?;

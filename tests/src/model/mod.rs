@@ -1,4 +1,4 @@
-//! The seven calls, by the words of documents 01 and 02 (requests a, c, d, e and f) and with no eye to
+//! The nine calls, by the words of documents 01 and 02 (requests a, c, d, e, f and g) and with no eye to
 //! speed beyond what full-size sheets ask for.
 
 mod accept;
@@ -9,15 +9,17 @@ mod maker;
 mod mend;
 mod run;
 mod sheet;
+mod two;
 
 pub use accept::{accept, accept_by, strip_members, test_plan, window_entries};
 pub use algebra::{independent, solve, Span};
 pub use alter::{altered_data, altered_sheet};
-pub use buffers::{check_altering_by, check_summing};
+pub use buffers::{check_altering_by, check_comparing, check_reading_two, check_summing};
 pub use maker::{made_plan, power};
 pub use mend::{burst_by_search, burst_by_trial, smallest_rectangle};
 pub use run::{run_sums, Sums};
 pub use sheet::{cell, data_cells, data_of, syndrome, turn_over, unused_bits, write_sheet, Cell};
+pub use two::{data_of_two, differing_row, mended_data};
 
 use std::ops::Range;
 
@@ -118,4 +120,40 @@ pub fn alter_accepted(plan: &Plan, sheet: &mut [u8], position: u32) -> Answer {
     }
     sheet.copy_from_slice(&altered_sheet(plan, sheet, position));
     Answer::default()
+}
+
+/// Read two scans of one film: give the data that they have once mended. A refusal changes nothing.
+pub fn read_two(plan: &[u8], first: &[u8], second: &[u8], data: &mut [u8]) -> Answer {
+    match accept(plan) {
+        Ok(plan) => read_two_accepted(&plan, first, second, data),
+        Err(refusal) => refusal,
+    }
+}
+
+/// `read_two` under a plan that is known to be accepted: checks 11 to 14 and 19.
+pub fn read_two_accepted(plan: &Plan, first: &[u8], second: &[u8], data: &mut [u8]) -> Answer {
+    let checked = check_reading_two(plan, first, second, data);
+    match checked.and_then(|()| data_of_two(plan, first, second)) {
+        Ok(mended) => {
+            data.copy_from_slice(&mended);
+            Answer::default()
+        }
+        Err(refusal) => refusal,
+    }
+}
+
+/// The row where two scans first differ, by its places in the second. No places stand for a refusal too.
+pub fn first_difference(plan: &[u8], first: &[u8], second: &[u8]) -> Range<usize> {
+    match accept(plan) {
+        Ok(plan) => first_difference_accepted(&plan, first, second),
+        Err(_) => 0..0,
+    }
+}
+
+/// `first_difference` under a plan that is known to be accepted: checks 11 and 13.
+pub fn first_difference_accepted(plan: &Plan, first: &[u8], second: &[u8]) -> Range<usize> {
+    match check_comparing(plan, first, second) {
+        Ok(()) => differing_row(plan, first, second),
+        Err(_) => 0..0,
+    }
 }

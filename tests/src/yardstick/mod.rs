@@ -6,9 +6,11 @@ mod best;
 mod maker;
 mod plain;
 mod sheets;
+mod two;
 
 pub use alter::alter_accepted;
 pub use sheets::{read_accepted, sum_accepted, write_accepted};
+pub use two::{first_difference_accepted, read_two_accepted};
 
 use std::ops::Range;
 
@@ -54,6 +56,18 @@ pub fn plain_sums(plan: &[u8], sheet: &[u8], run: Range<u32>, into: &mut [u8]) -
 pub fn plain_alter(plan: &[u8], sheet: &mut [u8], position: u32) -> u64 {
     let plan = accept_by(plan, plain::windows, plain::strips);
     told(plan.and_then(|plan| alter_accepted(&plan, sheet, position)))
+}
+
+/// Reading two scans in plain Rust: the plain plan test, the checks of the buffers, and each scan as one.
+pub fn plain_read_two(plan: &[u8], first: &[u8], second: &[u8], data: &mut [u8]) -> u64 {
+    let plan = accept_by(plan, plain::windows, plain::strips);
+    told(plan.and_then(|plan| read_two_accepted(&plan, first, second, data)))
+}
+
+/// Where two scans first differ in plain Rust: the plain plan test, the checks of the scans, and their rows.
+pub fn plain_first_difference(plan: &[u8], first: &[u8], second: &[u8]) -> Range<usize> {
+    let plan = accept_by(plan, plain::windows, plain::strips);
+    plan.map_or(0..0, |plan| first_difference_accepted(&plan, first, second))
 }
 
 fn told<T>(outcome: Result<T, Answer>) -> u64 {

@@ -15,6 +15,7 @@ mod runs;
 mod sheets;
 mod subject;
 mod timing;
+mod two;
 
 fn main() {
     println!(
@@ -28,6 +29,8 @@ fn main() {
     sheets::write_and_read();
     runs::runs();
     alter::alterations();
+    two::two_scans();
+    two::differences();
     #[cfg(feature = "before")]
     before::beside();
 }

@@ -1,27 +1,23 @@
--- `layout::cells::turn_if` meets its contract: 1 shifted is a power of two, and 0 shifted turns nothing over. Assumes nothing.
-use mathlib.Core.Path.{_≡_}
-use mathlib.Core.Bool.{Bool, true, false}
+-- `layout::cells::turn_if` meets its contract. Assumes nothing.
+use mathlib.Core.Path.{_≡_, refl, ap, _∙_}
+use mathlib.Core.Bool.{Bool, true, false, cond}
 use mathlib.Core.List.{List}
-use Prim.Native.Nat.{ℕ, _*_, _%_, _^_}
-use native.Mathlib.Nat.{one-mul, zero-mul}
-use native.Mathlib.Omega.{arith}
-use lib.Bits.{bitXor, xor-zero-r}
+use Prim.Native.Nat.{ℕ, _%_, _^_}
 use lib.ListN.{getD, set}
-use lib.Pow.{shl-exact}
 use lib.Seq.{set-getD}
-use mir.Val.{boolByte}
 use Rattle.gf2.specs.Xor.{_⊕_}
 use Rattle.layout.specs.Cells.{byteOf, turned, turnedIf}
+use Rattle.layout.proofs.Turned.{bit-turned}
 use borrow.Author.Needs.{needs}
 use Rattle.layout.proofs.cells.turn_if.Statement.{statement}
 use Rattle.layout.proofs.cells.turn_if.Tie as tie
 
 -- asked or not
 either : (n2 : ℕ) (s : List ℕ) (i j : ℕ) (b : Bool)
-    → set s (byteOf n2 i j) (bitXor (getD s (byteOf n2 i j) 0) (boolByte b * 2 ^ (j % 8) % 256)) ≡ turnedIf b n2 s i j
-unfolding turned _⊕_
-either n2 s i j true = rw (shl-exact {a = 1} 1 (j % 8) 8 (omega arith) (omega arith), one-mul (2 ^ (j % 8)))
-either n2 s i j false = rw (zero-mul (2 ^ (j % 8)), xor-zero-r (getD s (byteOf n2 i j) 0)) (set-getD s (byteOf n2 i j) 0)
+    → set s (byteOf n2 i j) (cond b (getD s (byteOf n2 i j) 0 ⊕ 2 ^ (j % 8)) (getD s (byteOf n2 i j) 0)) ≡ turnedIf b n2 s i j
+unfolding turned
+either n2 s i j true = refl
+either n2 s i j false = set-getD s (byteOf n2 i j) 0
 
 byte-of-requires : tie.Need-byte-of-requires
 byte-of-requires c κs = search needs
@@ -45,7 +41,11 @@ same-length : tie.Need-same-length
 same-length c = search needs
 
 returns : tie.Need-returns
-returns c = rw (c .before .byte-of .ensures) (either _ _ _ _ (c .before .before .before .args .asked))
+returns c =
+    let a = c .before .before .before .args in
+    let k = byteOf (a .n2) (a .i) (a .j) in
+    rw (c .before .byte-of .ensures)
+    (ap (set (a .s .now) k) (bit-turned (getD (a .s .now) k 0) (a .j) (a .asked)) ∙ either (a .n2) (a .s .now) (a .i) (a .j) (a .asked))
 
 pub turn-if-spec : {M : Type 1} → statement M
 turn-if-spec =

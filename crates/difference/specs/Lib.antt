@@ -1,0 +1,2 @@
+-- The row where two scans of one film first differ.
+pub mod Difference

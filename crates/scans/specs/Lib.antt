@@ -1,0 +1,2 @@
+-- What is read from two scans of one film.
+pub mod ReadTwo

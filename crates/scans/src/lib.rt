@@ -1,0 +1,3 @@
+// Two scans of one film, read together.
+pub mod agree;
+pub mod reading;
