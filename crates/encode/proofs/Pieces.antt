@@ -1,6 +1,6 @@
 -- The parts of a plan's bytes:
 --
---   joined-..                                  lists of four bytes one after another: equal ones, their length, one more, one in the middle
+--   joined-..                                  lists of four bytes one after another: their length, one more, one in the middle
 --   length-kept                                a step of writing keeps the length of the plan
 --   header-length, table-length, list-length   how many bytes each part has
 --   table-none, list-none                      no entry, no pair
@@ -18,20 +18,16 @@ use native.Mathlib.Decide.{ℕ-discrete}
 use native.Mathlib.Omega.{arith}
 use lib.ListN.{length, length-append}
 use Rattle.layout.specs.Number.{u16At, u32At, lowBytes, overwritten}
+use Rattle.layout.specs.Joined.{joined}
+use Rattle.layout.proofs.Joined.{joined-length, joined-equal}
 use Rattle.layout.proofs.Overwriting.{low-length, overwritten-length, overwritten-append, u16-back, u32-back}
 use Rattle.plan.specs.declared.header.Header.{Header}
 use Rattle.plan.specs.Header.{headerLength}
-use Rattle.encode.specs.Encode.{headerBytes, joined, tableBytes, listBytes}
+use Rattle.encode.specs.Encode.{headerBytes, tableBytes, listBytes}
 
 -- ---- lists one after another, four bytes each
 
 module _ (f : ℕ → List ℕ) where
-  -- equal lists
-  joined-equal : (g : ℕ → List ℕ) (n : ℕ) → ((k : ℕ) → k < n → f k ≡ g k) → joined n f ≡ joined n g
-  unfolding joined
-  joined-equal g zero e = refl
-  joined-equal g (suc n) e = ap₂ (λ (s t : List ℕ). s ++ t) (joined-equal g n (λ k l. e k (omega arith))) (e n (omega arith))
-
   -- none is written
   joined-none : (s : List ℕ) (o : ℕ) → s ≡ overwritten s o (joined 0 f)
   unfolding overwritten joined
@@ -52,17 +48,12 @@ module _ (f : ℕ → List ℕ) where
       go (no e) ih = let r = ih (omega arith) in (r .0, apart ∙ r .1)
 
   module _ (four : (k : ℕ) → length (f k) ≡ 4) where
-    joined-length : (n : ℕ) → length (joined n f) ≡ 4 * n
-    unfolding joined
-    joined-length zero = refl
-    joined-length (suc n) =
-        let e : length (joined n f) ≡ 4 * n = joined-length n in
-        let d = four n in
-        length-append (joined n f) (f n) ∙ omega arith
+    joined-four : (n : ℕ) → length (joined n f) ≡ 4 * n
+    joined-four n = let e = joined-length 4 n f (λ k _. four k) in omega arith
 
     -- where list k stands
     joined-place : (pre : List ℕ) (k : ℕ) → length (pre ++ joined k f) ≡ length pre + 4 * k
-    joined-place pre k = let e = joined-length k in length-append pre (joined k f) ∙ omega arith
+    joined-place pre k = let e = joined-four k in length-append pre (joined k f) ∙ omega arith
 
     -- one more is written
     joined-next : (s t u : List ℕ) (o k : ℕ) → t ≡ overwritten s o (joined k f) → u ≡ overwritten t (o + 4 * k) (f k)
@@ -70,7 +61,7 @@ module _ (f : ℕ → List ℕ) where
     unfolding joined
     joined-next s t u o k before here =
         here
-        ∙ ap₂ (λ (r : List ℕ) (n : ℕ). overwritten r (o + n) (f k)) before (sym (joined-length k))
+        ∙ ap₂ (λ (r : List ℕ) (n : ℕ). overwritten r (o + n) (f k)) before (sym (joined-four k))
         ∙ sym (overwritten-append s o (joined k f) (f k))
         ∙ ap (λ (n : ℕ). overwritten s o (joined n f)) (sym (add-one k))
 
@@ -88,7 +79,7 @@ module _ (f : ℕ → ℕ) where
 
   pub table-length : (n : ℕ) → length (tableBytes n f) ≡ 4 * n
   unfolding tableBytes
-  table-length = joined-length entry four-bytes
+  table-length = joined-four entry four-bytes
 
   pub table-none : (s : List ℕ) (o : ℕ) → s ≡ overwritten s o (tableBytes 0 f)
   unfolding tableBytes
@@ -101,7 +92,7 @@ module _ (f : ℕ → ℕ) where
 
   pub table-equal : (g : ℕ → ℕ) (n : ℕ) → ((k : ℕ) → k < n → f k ≡ g k) → tableBytes n f ≡ tableBytes n g
   unfolding tableBytes
-  table-equal g n e = joined-equal entry (λ k. lowBytes 4 (g k)) n (λ k l. ap (lowBytes 4) (e k l))
+  table-equal g n e = joined-equal n entry (λ k. lowBytes 4 (g k)) (λ k l. ap (lowBytes 4) (e k l))
 
   pub table-read : (n k : ℕ) → k < n → f k < 4294967296 → (pre post : List ℕ) → u32At (pre ++ (tableBytes n f ++ post)) (length pre + 4 * k) ≡ f k
   unfolding tableBytes
@@ -121,7 +112,7 @@ module _ (row column : ℕ → ℕ) where
 
   pub list-length : (n : ℕ) → length (listBytes n row column) ≡ 4 * n
   unfolding listBytes
-  list-length = joined-length pair pair-bytes
+  list-length = joined-four pair pair-bytes
 
   pub list-none : (s : List ℕ) (o : ℕ) → s ≡ overwritten s o (listBytes 0 row column)
   unfolding listBytes
@@ -136,7 +127,7 @@ module _ (row column : ℕ → ℕ) where
       → listBytes n row column ≡ listBytes n row′ column′
   unfolding listBytes
   list-equal row′ column′ n r c =
-      joined-equal pair (λ k. lowBytes 2 (row′ k) ++ lowBytes 2 (column′ k)) n
+      joined-equal n pair (λ k. lowBytes 2 (row′ k) ++ lowBytes 2 (column′ k))
       (λ k l. ap₂ (λ (x y : ℕ). lowBytes 2 x ++ lowBytes 2 y) (r k l) (c k l))
 
   -- pair k, its two numbers apart

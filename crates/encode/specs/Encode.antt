@@ -1,13 +1,13 @@
 -- The bytes of a plan (document 01, "Plan bytes"): numbers of 16 and 32 bits, low byte first.
 --
 --   headerBytes h              the ten numbers of a header, 16 bits each
---   joined n f                 n lists one after another: f 0, …, f (n - 1)
 --   tableBytes n f             n entries of a table, 32 bits each
 --   listBytes n row column     n pairs of the check list, row then column, 16 bits each
 --   planBytes h c              the header h, and the row table, the column table and the check list of the code c
-use Prim.Native.Nat.{ℕ, zero, suc, _+_, _*_}
-use mathlib.Core.List.{List, [], _++_}
+use Prim.Native.Nat.{ℕ, _+_, _*_}
+use mathlib.Core.List.{List, _++_}
 use Rattle.layout.specs.Number.{lowBytes}
+use Rattle.layout.specs.Joined.{joined}
 use Rattle.boxcode.specs.Code.{Code}
 use Rattle.plan.specs.declared.header.Header.{Header}
 
@@ -23,10 +23,6 @@ headerBytes h =
     ++ (lowBytes 2 (h .columns)
     ++ (lowBytes 2 (h .checks)
     ++ lowBytes 2 (h .total)))))))))
-
-unfoldable pub joined : ℕ → (ℕ → List ℕ) → List ℕ
-joined zero f = []
-joined (suc n) f = joined n f ++ f n
 
 unfoldable pub tableBytes : ℕ → (ℕ → ℕ) → List ℕ
 tableBytes n f = joined n (λ k. lowBytes 4 (f k))
