@@ -36,12 +36,29 @@ pub fn data_size(h: Header) -> usize
     h.n1 * h.n2 - (h.rv + h.rh)
 }
 
+// The bytes of a sheet.
+pub fn sheet_bytes(h: Header) -> usize
+    requires { ⌜ Small h ⌝ }
+    ensures { λ r. ⌜ (r ≡ sheetBytes (h .n1) (h .n2)) × (r ≤ 45056) ⌝ }
+{
+    h.n1 * row_bytes(h.n2)
+}
+
+// The bytes of the data.
+pub fn data_bytes(h: Header) -> usize
+    requires { ⌜ Small h ⌝ }
+    requires { ⌜ h .rv + h .rh ≤ h .n1 * h .n2 ⌝ }
+    ensures { λ r. ⌜ (r ≡ rowBytes (h .n1 * h .n2 - (h .rv + h .rh))) × (r ≤ 45056) ⌝ }
+{
+    row_bytes(data_size(h))
+}
+
 // Check 11: the length of a sheet buffer.
 pub fn sheet_length(h: Header, sheet: &[u8]) -> Verdict
     requires { ⌜ Small h ⌝ }
     ensures { λ r. ⌜ r ≡ lengthVerdict 11 (now (sheet .entry)) (sheetBytes (h .n1) (h .n2)) ⌝ }
 {
-    length_verdict(11, sheet, h.n1 * row_bytes(h.n2))
+    length_verdict(11, sheet, sheet_bytes(h))
 }
 
 // Check 12: the length of a data buffer.
@@ -50,7 +67,7 @@ pub fn data_length(h: Header, bits: &[u8]) -> Verdict
     requires { ⌜ h .rv + h .rh ≤ h .n1 * h .n2 ⌝ }
     ensures { λ r. ⌜ r ≡ lengthVerdict 12 (now (bits .entry)) (rowBytes (h .n1 * h .n2 - (h .rv + h .rh))) ⌝ }
 {
-    length_verdict(12, bits, row_bytes(data_size(h)))
+    length_verdict(12, bits, data_bytes(h))
 }
 
 // Check 13, of a sheet.
