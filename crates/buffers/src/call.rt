@@ -5,7 +5,7 @@ ghost use Rattle.accept.specs.Checked.{Checked};
 ghost use Rattle.plan.specs.Header.{Small};
 ghost use Rattle.plan.specs.Verdict.{_orElse_};
 ghost use Rattle.layout.specs.Cells.{sheetBytes};
-ghost use Rattle.buffers.specs.Buffers.{unusedVerdict, sheetChecks, lengthChecks, writeChecks, readChecks, formChecks, sumsChecks};
+ghost use Rattle.buffers.specs.Buffers.{unusedVerdict, sheetChecks, lengthChecks, writeChecks, formChecks, sumsChecks};
 ghost use Rattle.buffers.specs.Buffers.{scanLengths, scansChecks, readTwoChecks};
 use crate::lent::data_length;
 use crate::lent::data_unused;
@@ -30,8 +30,8 @@ fn sheet_checks(plan: &[u8], sheet: &[u8], words: &mut [u64]) -> Verdict
     sheet_length(header_of(plan), sheet)
 }
 
-// The plan, and the lengths of the sheet and of the data.
-fn length_checks(plan: &[u8], sheet: &[u8], bits: &[u8], words: &mut [u64]) -> Verdict
+// The plan, and the lengths of the sheet and of the data: all the checks before reading but those of the sheet itself.
+pub fn length_checks(plan: &[u8], sheet: &[u8], bits: &[u8], words: &mut [u64]) -> Verdict
     requires { ⌜ length (now words) ≡ 2792 ⌝ }
     ensures { λ r. ⌜ Checked (now (plan .entry)) (lengthChecks (now (plan .entry)) (now (sheet .entry)) (now (bits .entry))) r (now (words .exit)) ⌝ }
 {
@@ -52,18 +52,6 @@ pub fn write_checks(plan: &[u8], bits: &[u8], sheet: &[u8], words: &mut [u64]) -
         return lengths;
     }
     data_unused(header_of(plan), bits)
-}
-
-// The checks before reading.
-pub fn read_checks(plan: &[u8], sheet: &[u8], bits: &[u8], words: &mut [u64]) -> Verdict
-    requires { ⌜ length (now words) ≡ 2792 ⌝ }
-    ensures { λ r. ⌜ Checked (now (plan .entry)) (readChecks (now (plan .entry)) (now (sheet .entry)) (now (bits .entry))) r (now (words .exit)) ⌝ }
-{
-    let lengths = length_checks(plan, sheet, bits, words);
-    if lengths.number != 0 {
-        return lengths;
-    }
-    sheet_unused(header_of(plan), sheet)
 }
 
 // The plan, and that the sheet is of the right form.

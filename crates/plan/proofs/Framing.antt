@@ -4,6 +4,7 @@
 --   position-fits   a cell's entry lies in its table
 --   table-room      either table has room in 2,792 words
 --   framed    where checks 1 to 5 pass, the plan is framed
+--   framed-code     its code, by the header under a name of its own
 --
 -- Assumes nothing.
 use mathlib.Core.Path.{_≡_, refl, _∙_, ap}
@@ -23,6 +24,7 @@ use Rattle.plan.specs.declared.table.Table.the-variants.{Rows, Columns}
 use Rattle.plan.specs.Table.{entriesOf}
 use Rattle.plan.specs.Verdict.{accepted, verdictIf, refusal}
 use Rattle.plan.specs.Header.{headerLength, headerOf, Small, Framed, columnsStart, checksStart, planLength}
+use Rattle.plan.specs.Bytes.{codeWith, codeOf}
 use Rattle.plan.specs.Form.{badBurst, badSheet, badWidths, badOffsets, sizesVerdict, offsetsVerdict, fieldsVerdict, headerVerdict}
 use Rattle.plan.proofs.Sequence.{else-zero, if-zero, else-if}
 
@@ -121,3 +123,7 @@ position-fits i j b n l p = digits-lt l (mod-lt j p)
 pub table-room : (h : Header) (t : Table) → Small h → entriesOf h t ≤ 2792
 table-room h Rows p = omega (arith, p .row-positions)
 table-room h Columns p = p .column-positions
+
+pub framed-code : (s : List ℕ) (h : Header) → Framed s h → codeWith s h ≡ codeOf s
+unfolding codeOf
+framed-code s h F = ap (codeWith s) (F .is)

@@ -2,6 +2,9 @@
 --
 --   read-refuses        where checks 1 to 13 refuse, so does the read
 --   read-mends          where they pass, check 14 and the mend decide
+--   lengths-refuse      where checks 1 to 12 refuse, so does the read
+--   unused-refuses, unused-mends   where they pass, check 13 refuses; or it passes, and check 14 and the mend decide
+--   sheet-length, bits-length   a read leaves buffers of the right lengths as long as they were
 --   mend-none, mend-some   no burst: 14, and nothing is changed; a burst: the mend
 --   burst-on            the rectangle of a burst that was found lies on the sheet
 --   burst-sheet, burst-bits, burst-report   turning it over gives the mended sheet; the data of those bytes; its report
@@ -9,15 +12,16 @@
 --   data-first, data-next, data-all   the data taken with nothing written to the sheet: before the first digit, one digit on, and after all
 --
 -- Assumes nothing.
-use mathlib.Core.Path.{_≡_, refl, sym, ap, _∙_}
+use mathlib.Core.Path.{_≡_, refl, sym, ap, subst, _∙_}
 use mathlib.Core.Bool.{xor}
 use mathlib.Core.List.{List}
 use Prim.Native.Nat.{ℕ, _+_, _*_, _/_, _%_, _<_}
 use native.Mathlib.Numerals.{add-one}
 use native.Mathlib.Omega.{arith}
 use borrow.Author.Tests.{ne-eqb}
+use lib.ListN.{length}
 use Rattle.finite.specs.Search.{bit}
-use Rattle.layout.specs.Cells.{RightForm, cellOf, bytesOf}
+use Rattle.layout.specs.Cells.{rowBytes, sheetBytes, RightForm, cellOf, bytesOf}
 use Rattle.layout.proofs.Form.{bytes-cell, bytes-equal}
 use Rattle.boxcode.specs.Code.{Code, Formed}
 use Rattle.boxcode.specs.Syndrome.{flip, rowSyndrome, columnSyndrome}
@@ -27,9 +31,13 @@ use Rattle.boxcode.specs.Reader.{change, mended}
 use Rattle.boxcode.proofs.Fill.{data-cells}
 use Rattle.plan.specs.declared.verdict.Verdict.{Verdict}
 use Rattle.plan.specs.Verdict.{accepted, refusal}
-use Rattle.plan.specs.Bytes.{codeOf}
+use Rattle.plan.specs.declared.header.Header.{Header}
+use Rattle.plan.specs.Accepted.{AcceptedWith}
+use Rattle.plan.specs.Bytes.{codeOf, codeWith}
+use Rattle.plan.proofs.Framing.{framed-code}
 use Rattle.plan.proofs.Sequence.{else-first, else-second}
-use Rattle.buffers.specs.Buffers.{readChecks}
+use Rattle.buffers.specs.Buffers.{unusedVerdict, sheetUnused, lengthChecks, readChecks}
+use Rattle.buffers.proofs.Passing.{Lengths, lengths-pass}
 use Rattle.payload.specs.Packed.{packedData}
 use Rattle.payload.specs.Placed.{bitTurnedIf}
 use Rattle.payload.proofs.CellBit.{held-turned-if}
@@ -54,6 +62,37 @@ module _ (plan sheet bits : List ℕ) where
   pub read-mends : readChecks plan sheet bits .number ≡ 0 → mendOutcome (codeOf plan) sheet bits ≡ readOutcome plan sheet bits
   unfolding readOutcome readVerdict mendOutcome
   read-mends e = rw (else-second (readChecks plan sheet bits) (foundVerdict (burstIn (codeOf plan) sheet)) e)
+
+  refused-by : (v : Verdict) → readChecks plan sheet bits ≡ v → (v .number ≡ 0 → ⊥) → refused v sheet bits ≡ readOutcome plan sheet bits
+  refused-by v e h =
+      ap (λ (u : Verdict). refused u sheet bits) (sym e) ∙ read-refuses (λ z. h (ap (λ (u : Verdict). u .number) (sym e) ∙ z))
+
+  pub lengths-refuse : (lengthChecks plan sheet bits .number ≡ 0 → ⊥) → refused (lengthChecks plan sheet bits) sheet bits ≡ readOutcome plan sheet bits
+  unfolding readChecks
+  lengths-refuse h = refused-by (lengthChecks plan sheet bits) (else-first (lengthChecks plan sheet bits) _ h) h
+
+  -- where checks 1 to 12 pass, by a header of that name
+  module _ (h : Header) (A : AcceptedWith plan h) (m : length sheet ≡ sheetBytes (h .n1) (h .n2))
+      (k : length bits ≡ rowBytes (dataSize (codeWith plan h))) where
+    lengths : Lengths plan sheet bits
+    unfolding codeOf
+    lengths = subst (λ (g : Header). AcceptedWith plan g
+        → length sheet ≡ sheetBytes (g .n1) (g .n2) → length bits ≡ rowBytes (dataSize (codeWith plan g)) → Lengths plan sheet bits)
+        (sym (A .framed .is)) (λ B u v. record { accepted = B; sheet-size = u; bits-size = v }) A m k
+
+    after-lengths : readChecks plan sheet bits ≡ unusedVerdict (h .n1) (h .n2) sheet
+    unfolding readChecks
+    after-lengths =
+        else-second (lengthChecks plan sheet bits) _ (ap (λ (v : Verdict). v .number) (lengths-pass plan sheet bits lengths))
+        ∙ ap (λ (c : Code). sheetUnused c sheet) (sym (framed-code plan h (A .framed)))
+
+    pub unused-refuses : (unusedVerdict (h .n1) (h .n2) sheet .number ≡ 0 → ⊥)
+        → refused (unusedVerdict (h .n1) (h .n2) sheet) sheet bits ≡ readOutcome plan sheet bits
+    unused-refuses n = refused-by (unusedVerdict (h .n1) (h .n2) sheet) after-lengths n
+
+    pub unused-mends : unusedVerdict (h .n1) (h .n2) sheet .number ≡ 0 → mendOutcome (codeWith plan h) sheet bits ≡ readOutcome plan sheet bits
+    unused-mends e =
+        ap (λ (c : Code). mendOutcome c sheet bits) (framed-code plan h (A .framed)) ∙ read-mends (ap (λ (v : Verdict). v .number) after-lengths ∙ e)
 
 -- the sums of the sheet are asked for
 abbrev FoundIn : Code → List ℕ → Found → Type 0

@@ -1,7 +1,7 @@
 // The read of one sheet.
 ghost use mathlib.Core.Path.{_≡_};
 ghost use lib.ListN.{length};
-ghost use Rattle.layout.specs.Cells.{rowBytes, RightForm};
+ghost use Rattle.layout.specs.Cells.{rowBytes, sheetBytes, RightForm};
 ghost use Rattle.boxcode.specs.Check.{dataSize};
 ghost use Rattle.plan.specs.Bytes.{codeWith};
 ghost use Rattle.plan.specs.Table.{Unpacked};
@@ -11,7 +11,8 @@ use crate::answer::Answer;
 use crate::answer::refused_as;
 use crate::burst::apply_burst;
 use crate::burst::find_burst;
-use buffers::call::read_checks;
+use buffers::call::length_checks;
+use buffers::lent::sheet_unused;
 use mend::found::Found;
 use plan::entry::header_of;
 use plan::header::Header;
@@ -38,14 +39,35 @@ pub fn mend_sheet(
     apply_burst(plan, h, sheet, bits, top, left, x)
 }
 
+// Checks 13 and 14, and the mend, where the plan is accepted and both buffers have the right lengths. A refusal changes no byte of either.
+pub fn read_lent(
+    plan: &[u8],
+    h: Header,
+    columns: &[u64],
+    sheet: &mut [u8],
+    bits: &mut [u8],
+) -> Answer
+    requires { ⌜ AcceptedWith (now plan) h ⌝ }
+    requires { ⌜ Unpacked (now plan) h (now columns) ⌝ }
+    requires { ⌜ length (now sheet) ≡ sheetBytes (h .n1) (h .n2) ⌝ }
+    requires { ⌜ length (now bits) ≡ rowBytes (dataSize (codeWith (now plan) h)) ⌝ }
+    ensures { λ r. ⌜ outcome r (now (sheet .exit)) (now (bits .exit)) ≡ readOutcome (now (plan .entry)) (now (sheet .entry)) (now (bits .entry)) ⌝ }
+{
+    let unused = sheet_unused(h, sheet);
+    if unused.number != 0 {
+        return refused_as(unused);
+    }
+    mend_sheet(plan, h, columns, sheet, bits)
+}
+
 // Checks 1 to 14, and the mend. A refusal changes no byte of either buffer.
 pub fn read(plan: &[u8], sheet: &mut [u8], bits: &mut [u8]) -> Answer
     ensures { λ r. ⌜ outcome r (now (sheet .exit)) (now (bits .exit)) ≡ readOutcome (now (plan .entry)) (now (sheet .entry)) (now (bits .entry)) ⌝ }
 {
     let mut columns = [0u64; 2792];
-    let checked = read_checks(plan, sheet, bits, &mut columns);
+    let checked = length_checks(plan, sheet, bits, &mut columns);
     if checked.number != 0 {
         return refused_as(checked);
     }
-    mend_sheet(plan, header_of(plan), &columns, sheet, bits)
+    read_lent(plan, header_of(plan), &columns, sheet, bits)
 }
