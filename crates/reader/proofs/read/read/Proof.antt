@@ -30,8 +30,8 @@ returns : tie.Need-returns
 returns c =
     let a = c .before .before .before .before .before .before .before .before .before .before .before .args in
     let e = c .before .before .before .before .length-checks .ensures .verdict in
-    rw (c .refused-as .ensures, e)
-    (lengths-refuse (a .plan .now) (a .sheet .now) (a .bits .now) (λ z. c .before .if1 .taken (ap (λ (v : Verdict). v .number) e ∙ z)))
+    let n = ap (λ (v : Verdict). v .number) e in
+    rw (c .refused-as .ensures, e) (lengths-refuse (a .plan .now) (a .sheet .now) (a .bits .now) (λ z. omega (arith, c .before .if1 .taken)))
 
 -- what the function was given, where checks 1 to 12 passed
 abbrev given : tie.Else1 → tie.Start

@@ -1,5 +1,6 @@
 -- `reader::read::read_lent` meets its contract: only a sheet of the right form goes on to the mend. Assumes nothing.
 use mathlib.Core.Path.{_≡_, sym, ap, _∙_}
+use native.Mathlib.Omega.{arith}
 use Rattle.plan.specs.declared.verdict.Verdict.{Verdict}
 use Rattle.buffers.specs.Buffers.{unusedVerdict}
 use Rattle.buffers.proofs.Passing.{unused-right}
@@ -22,8 +23,8 @@ returns c =
     let a = c .before .before .before .before .before .before .before .before .before in
     let e = c .before .before .before .sheet-unused .ensures in
     let p = a .pre in
-    rw (c .refused-as .ensures, e)
-    (unused-refuses _ _ _ (a .args .h) (p .0) (p .1 .1 .0) (p .1 .1 .1) (λ z. c .before .if1 .taken (ap (λ (v : Verdict). v .number) e ∙ z)))
+    let n = ap (λ (v : Verdict). v .number) e in
+    rw (c .refused-as .ensures, e) (unused-refuses _ _ _ (a .args .h) (p .0) (p .1 .1 .0) (p .1 .1 .1) (λ z. omega (arith, c .before .if1 .taken)))
 
 -- what the function was given, where check 13 passed
 abbrev given : tie.Else1 → tie.Start

@@ -25,7 +25,8 @@ returns : tie.Need-returns
 returns c =
     let s = c .before .before .before .before .before .before .before .before .before .args in
     let e = c .before .before .before .write-checks .ensures .verdict in
-    ap (λ (v : Verdict). wrote v (s .sheet .now)) e ∙ sym (write-refused _ _ _ (λ z. c .if1 .taken (ap (λ (v : Verdict). v .number) e ∙ z)))
+    let n = ap (λ (v : Verdict). v .number) e in
+    ap (λ (v : Verdict). wrote v (s .sheet .now)) e ∙ sym (write-refused _ _ _ (λ z. omega (arith, c .if1 .taken)))
 
 -- what the function was given, where the checks passed
 abbrev given : tie.Else1 → tie.Start
