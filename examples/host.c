@@ -1,7 +1,8 @@
 /*
  * A whole host: makes a plan for sheets of 16 rows and 40 columns and bursts of 3 by 3 cells, writes a drawing to a
  * sheet, puts a burst on it, sums it in two halves, reads it back, alters one stitch, reads two scans that each have a
- * burst, and shows each step. Cells inside the mended rectangle are shown as O (dark) and o (light).
+ * burst, reads a stack of sheets from two rooms, and shows each step. Cells inside the mended rectangle are shown as O
+ * (dark) and o (light).
  *
  *     gcc -Iinclude examples/host.c target/staticlib/libsheet.a -o host && ./host
  */
@@ -141,6 +142,48 @@ static int read_two_scans(void) {
     return memcmp(back, data, DATA_LEN) == 0;
 }
 
+enum { SHEETS = 3 };
+
+/* What a stack tells of one of its sheets. */
+static void show_numbers(const uint8_t *numbers, const uint8_t *rooms, size_t i) {
+    uint64_t answer = sheet_stack_answer(numbers, i);
+    printf("sheet %lu, room %u: ", (unsigned long)i, rooms[i]);
+    if (sheet_answer_number(answer) != SHEET_OK) {
+        printf("refused with %u\n", sheet_answer_number(answer));
+        return;
+    }
+    printf("%u cells mended", sheet_answer_cells(answer));
+    if (sheet_answer_cells(answer) > 0)
+        printf(", at row %u, column %u", sheet_answer_top(answer), sheet_answer_left(answer));
+    putchar('\n');
+}
+
+/*
+ * A stack of three sheets: as written, one that no single burst mends, and the first of the two scans. The second is
+ * refused and stops no other; the data of the others are as they were drawn.
+ */
+static int read_sheets(void) {
+    static const uint8_t rooms[SHEETS] = {0, 1, 0};
+    uint8_t numbers[SHEETS * SHEET_STACK_NUMBERS], texts[SHEETS * DATA_LEN];
+    size_t len = sheet_stack_bytes(plan, plan_len, SHEETS);
+    uint8_t *stack = malloc(len);
+    int good;
+    if (stack == NULL) exit(1);
+    memcpy(second, sheet, SHEET_LEN);
+    turn(second, 2, 30);
+    turn(second, 10, 30);
+    sheet_stack_header(plan, plan_len, rooms, SHEETS, stack);
+    memcpy(stack + sheet_stack_offset(plan, plan_len, SHEETS, 0), sheet, SHEET_LEN);
+    memcpy(stack + sheet_stack_offset(plan, plan_len, SHEETS, 1), second, SHEET_LEN);
+    memcpy(stack + sheet_stack_offset(plan, plan_len, SHEETS, 2), scan, SHEET_LEN);
+    good = sheet_read_stack(plan, plan_len, stack, len, numbers, sizeof numbers, texts, sizeof texts) == SHEET_OK;
+    printf("\na stack of %d sheets:\n", SHEETS);
+    for (size_t i = 0; good && i < SHEETS; i++) show_numbers(numbers, rooms, i);
+    good = good && memcmp(texts, data, DATA_LEN) == 0 && memcmp(texts + 2 * DATA_LEN, data, DATA_LEN) == 0;
+    free(stack);
+    return good;
+}
+
 int main(void) {
     uint64_t answer = make_plan();
     if (sheet_answer_number(answer) != SHEET_OK) {
@@ -179,6 +222,9 @@ int main(void) {
 
     if (!read_two_scans()) return 1;
     printf("both scans give the altered data\n");
+
+    if (!read_sheets()) return 1;
+    printf("the sheets that are taken give the altered data\n");
     free(plan);
     return 0;
 }

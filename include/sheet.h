@@ -1,14 +1,15 @@
 /*
  * sheet.h: pattern sheets that survive one burst.
  *
- * Nine calls on byte buffers: make a plan, make the house plan, test a plan, write a sheet, read a sheet, sum a run of
- * rows, alter one data bit of a sheet, read two scans of one film, find the row where two scans first differ. Each
- * answers one 64-bit number, which the functions below take apart. The bytes of plans, sheets and data are described in
- * docs/FORMAT.md.
+ * Ten calls on byte buffers: make a plan, make the house plan, test a plan, write a sheet, read a sheet, sum a run of
+ * rows, alter one data bit of a sheet, read two scans of one film, find the row where two scans first differ, read a
+ * stack of sheets. Each answers one 64-bit number, which the functions below take apart. The bytes of plans, sheets,
+ * stacks and data are described in docs/FORMAT.md.
  *
  * Promise, proved for every accepted plan (docs/PROMISE.md): a sheet that sheet_write made, with any cells of one
  * rectangle of the plan's b1 rows and b2 columns turned over, is read back by sheet_read as it was written. Two scans
- * of one such sheet, a burst on either or both, always give its data by sheet_read_two.
+ * of one such sheet, a burst on either or both, always give its data by sheet_read_two; and each sheet of a stack is
+ * read as if it were alone.
  *
  * Words. This header has one word for each thing; the knitter's word stands after it:
  *     sheet     the film: n1 rows by n2 columns of dark and light cells
@@ -23,6 +24,8 @@
  *     belongs   of a sheet to its plan: both its sums are 0, as those of every written sheet are
  *     position  the number of a data bit, from 0 on: a stitch of the drawing, counted as the carriage goes
  *     scan      a sheet as one head read it from the film: two scans of one film may each have a burst
+ *     stack     0 to 64 sheets in one buffer, under one plan, behind a header that tells where each begins
+ *     room      0 or 1, told of each sheet of a stack: what becomes of one room's sheets tells nothing of the other's
  *
  * The machine. libsheet.a is for x86-64 Linux, 64-bit: the C calling convention of System V, and a size_t of 8 bytes,
  * which is checked below. Of the C library it needs memcpy and memset, and nothing else.
@@ -30,9 +33,11 @@
  * What a caller owes: each length is the true length of its buffer, and a buffer that a call writes overlaps no other
  * buffer of that call. Where a length is 0, its pointer may be anything, null too: it is not followed. Nothing else is
  * owed: any bytes and any numbers may be handed in. The calls use no heap and no globals, keep no pointer, and may run
- * in several threads at once. The stack they need is told below.
+ * in several threads at once. How much they need of a thread's stack, which is memory and no stack of sheets, is told
+ * below.
  *
- * Every call makes all its checks before it writes. A call that turns something back changes no byte of any buffer.
+ * Every call makes all its checks before it writes; of a stack those of one sheet are made before anything is written
+ * of that sheet. A call that turns something back changes no byte of any buffer.
  *
  * The smallest use (see examples/host.c for a whole one):
  *
@@ -56,16 +61,23 @@ enum {
     SHEET_PLAN_HEADER_BYTES = 20,     /* the header of a plan: ten numbers of 16 bits */
     SHEET_HOUSE_PLAN_BYTES = 14684,   /* the house plan: the length that sheet_house_plan asks for */
     SHEET_SUMS_BYTES = 8,             /* the two sums of a run: the length that sheet_sums asks for */
-    SHEET_PLAN_MAKE_STACK = 98304,    /* bytes of stack that are enough for sheet_plan_make, and for sheet_house_plan */
-    SHEET_PLAN_TEST_STACK = 65536,    /* bytes of stack that are enough for sheet_plan_test */
-    SHEET_WRITE_READ_STACK = 65536,   /* bytes of stack that are enough for sheet_write, and for sheet_read */
-    SHEET_SUMS_STACK = 65536,         /* bytes of stack that are enough for sheet_sums */
-    SHEET_ALTER_STACK = 65536,        /* bytes of stack that are enough for sheet_alter */
-    SHEET_READ_TWO_STACK = 65536,     /* bytes of stack that are enough for sheet_read_two */
-    SHEET_DIFFERENCE_STACK = 65536    /* bytes of stack that are enough for sheet_first_difference */
+    SHEET_STACK_SHEETS = 64,          /* the most sheets of a stack */
+    SHEET_STACK_NUMBERS = 16          /* bytes of the numbers of one sheet of a stack: eight of 16 bits */
 };
 
-/* The numbers of an answer, and what its places p and q tell. */
+/* Bytes of a thread's stack that are enough for a call. */
+enum {
+    SHEET_PLAN_MAKE_STACK = 98304,    /* sheet_plan_make, and sheet_house_plan */
+    SHEET_PLAN_TEST_STACK = 65536,    /* sheet_plan_test */
+    SHEET_WRITE_READ_STACK = 65536,   /* sheet_write, and sheet_read */
+    SHEET_SUMS_STACK = 65536,         /* sheet_sums */
+    SHEET_ALTER_STACK = 65536,        /* sheet_alter */
+    SHEET_READ_TWO_STACK = 65536,     /* sheet_read_two */
+    SHEET_DIFFERENCE_STACK = 65536,   /* sheet_first_difference */
+    SHEET_READ_STACK_STACK = 65536    /* sheet_read_stack */
+};
+
+/* The numbers of an answer, and what its places p and q tell. 13 and 14 are told of each sheet of a stack by itself. */
 enum {
     SHEET_OK = 0,             /* taken; places 0, 0 */
     SHEET_PLAN_SHORT = 1,     /* the plan is shorter than its header; 0, 0 */
@@ -79,14 +91,17 @@ enum {
     SHEET_PLAN_COLUMNS = 9,   /* the condition on columns fails; the two strip starts */
     SHEET_PLAN_DEPENDENT = 10, /* a check cell depends on earlier ones; index, 0 */
     SHEET_SHEET_LENGTH = 11,  /* the buffer of a sheet, or of a scan, has another length; 0, 0 */
-    SHEET_DATA_LENGTH = 12,   /* the data buffer has another length; 0, 0 */
-    SHEET_UNUSED_BIT = 13,    /* an unused bit is 1, of data written, or of a sheet or scan handed in; byte index, 0 */
+    SHEET_DATA_LENGTH = 12,   /* the data buffer, of a stack that of all its sheets, has another length; 0, 0 */
+    SHEET_UNUSED_BIT = 13,    /* an unused bit is 1, of data written, or of a sheet or scan handed in; byte index, 0;
+                                 of a sheet of a stack the index is that in the sheet */
     SHEET_NOT_MENDABLE = 14,  /* no single burst brings both sums to 0, of two scans those of neither; 0, 0 */
     SHEET_PLAN_POLYNOMIAL = 15, /* a polynomial has constant term 0, or a coefficient at or above its degree; 0, 0 */
     SHEET_PLAN_FEW_CELLS = 16, /* fewer than rv + rh check cells could be taken; 0, 0 */
     SHEET_POSITION = 17,      /* the position is k or more; 0, 0 */
     SHEET_NOT_BELONGING = 18, /* the sheet to alter does not belong to its plan; 0, 0 */
     SHEET_DATA_DIFFER = 19,   /* both scans can be mended, and their data differ; 0, 0 */
+    SHEET_STACK_FORM = 20,    /* the header of a stack, or its length, breaks the rules; 0, 0 */
+    SHEET_NUMBERS_LENGTH = 21, /* the buffer of a stack's numbers has another length; 0, 0 */
     SHEET_SUMS_LENGTH = 24    /* the buffer of the sums has another length; 0, 0 */
 };
 
@@ -176,6 +191,27 @@ uint64_t sheet_read_two(const uint8_t *plan, size_t plan_len, const uint8_t *fir
 uint64_t sheet_first_difference(const uint8_t *plan, size_t plan_len, const uint8_t *first, size_t first_len,
                                 const uint8_t *second, size_t second_len);
 
+/*
+ * Reads a stack of sheets: checks 1 to 10, once for all of them, 20, 21 and 12. Then each sheet is read as sheet_read
+ * reads it alone: checks 13 and 14, then its numbers, and if it is taken, it is mended in the stack and its data
+ * written. A sheet that is refused stops no other.
+ * The stack begins with a header: the count of its sheets, 0 to SHEET_STACK_SHEETS, 16 bits; then for each sheet its
+ * room, 0 or 1, 16 bits, and its offset from the stack's first byte, 32 bits. All are low byte first. The sheets follow
+ * in that order without gaps: sheet i begins at sheet_stack_offset, and stack_len is sheet_stack_bytes. Any other
+ * header or length is turned back with 20. sheet_stack_header writes a good header. Leaves plan and header alone.
+ * numbers_len is count times SHEET_STACK_NUMBERS, data_len count times sheet_plan_data_bytes; each sheet has its place
+ * in both, in the order of the header. The numbers of a sheet are eight of 16 bits, low byte first: that of its
+ * refusal, or 0; p and q; and the cells, top, left, height and width that sheet_read tells. All are written, whatever
+ * they held: five zeros after a refusal. sheet_stack_answer makes one answer of them.
+ * A refused sheet keeps its bytes, and the data buffer what it held at that sheet's place. The call's own answer has a
+ * number and two places alone: SHEET_OK, whatever became of the sheets, unless the whole stack is turned back; then no
+ * byte changes. A stack of no sheets is taken: two bytes, both 0, with numbers and data of length 0.
+ * Rooms are apart. Take two stacks with the same plan, header and lengths, and the same bytes in one room's sheets and
+ * in its places of numbers and data: both end with the same bytes there, whatever the other room's hold.
+ */
+uint64_t sheet_read_stack(const uint8_t *plan, size_t plan_len, uint8_t *stack, size_t stack_len, uint8_t *numbers,
+                          size_t numbers_len, uint8_t *data, size_t data_len);
+
 /* An answer taken apart (docs/ANSWER.md). */
 static inline unsigned sheet_answer_number(uint64_t answer) { return (unsigned)(answer & 31u); }
 static inline unsigned sheet_answer_p(uint64_t answer) { return (unsigned)((answer >> 5) & 65535u); }
@@ -246,6 +282,50 @@ static inline size_t sheet_plan_data_bits(const uint8_t *plan, size_t plan_len) 
 
 static inline size_t sheet_plan_data_bytes(const uint8_t *plan, size_t plan_len) {
     return (sheet_plan_data_bits(plan, plan_len) + 7) / 8;
+}
+
+/*
+ * Where a sheet begins in a stack of this count, counted from the stack's first byte; sheets are numbered from 0. Any
+ * bytes and any numbers may be handed in: for absurd ones it wraps.
+ */
+static inline size_t sheet_stack_offset(const uint8_t *plan, size_t plan_len, size_t count, size_t sheet) {
+    return 2 + 6 * count + sheet * sheet_plan_sheet_bytes(plan, plan_len);
+}
+
+/* The bytes of a stack of this count: the length that sheet_read_stack asks for. */
+static inline size_t sheet_stack_bytes(const uint8_t *plan, size_t plan_len, size_t count) {
+    return sheet_stack_offset(plan, plan_len, count, count);
+}
+
+/* Writes a number to so many bytes, low byte first. */
+static inline void sheet_stack_put(uint8_t *at, size_t bytes, size_t number) {
+    for (size_t byte = 0; byte < bytes; byte++) at[byte] = (uint8_t)(number >> (8 * byte) & 255u);
+}
+
+/*
+ * Writes the header of a stack of this count: its first 2 + 6 times count bytes, and no other. rooms has one byte for
+ * each sheet, its room. Any bytes and any count may be handed in; sheet_read_stack turns back what it does not take.
+ */
+static inline void sheet_stack_header(const uint8_t *plan, size_t plan_len, const uint8_t *rooms, size_t count,
+                                      uint8_t *stack) {
+    sheet_stack_put(stack, 2, count);
+    for (size_t sheet = 0; sheet < count; sheet++) {
+        uint8_t *entry = stack + 2 + 6 * sheet;
+        sheet_stack_put(entry, 2, rooms[sheet]);
+        sheet_stack_put(entry + 2, 4, sheet_stack_offset(plan, plan_len, count, sheet));
+    }
+}
+
+/*
+ * The numbers of a sheet of a stack as the answer that sheet_read gives of it alone: the functions above take it apart.
+ * numbers is the buffer of the whole stack, as sheet_read_stack left it. Of any other bytes some answer is made.
+ */
+static inline uint64_t sheet_stack_answer(const uint8_t *numbers, size_t sheet) {
+    static const unsigned shifts[8] = {0, 5, 21, 33, 38, 47, 57, 60};
+    const uint8_t *of = numbers + SHEET_STACK_NUMBERS * sheet;
+    uint64_t answer = 0;
+    for (size_t at = 0; at < 8; at++) answer |= (of[2 * at] | (uint64_t)of[2 * at + 1] << 8) << shifts[at];
+    return answer;
 }
 
 #ifdef __cplusplus

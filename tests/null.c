@@ -20,6 +20,7 @@ static int is_empty(sheet_part part, const uint8_t *second) { return part.length
 
 int main(void) {
     uint8_t sheet[3] = {0xaa, 0xaa, 0xaa}, scan[3] = {1, 0, 0}, data[1] = {0}, sums[SHEET_SUMS_BYTES] = {0xaa};
+    uint8_t no_sheets[2] = {0, 0}, stack[9] = {1, 0, 1, 0, 8, 0, 0, 0, 2}, numbers[SHEET_STACK_NUMBERS] = {0xaa};
     uint8_t *none = malloc(sheet_plan_data_bytes(plan_n, sizeof plan_n));
     size_t n = sizeof plan_n, s = sizeof plan_s;
     uint64_t answer;
@@ -87,6 +88,20 @@ int main(void) {
     expect("difference, no first", is_empty(sheet_scans_differ(plan_n, n, NULL, 0, scan, 1), scan));
     expect("difference, no second", is_empty(sheet_scans_differ(plan_n, n, scan, 1, NULL, 0), NULL));
     expect("the scans are left alone", sheet[0] == 0 && sheet[1] == 0xaa && scan[0] == 1 && scan[2] == 0);
+
+    expect("stack, no plan", answers(sheet_read_stack(NULL, 0, stack, 9, numbers, 16, NULL, 0), SHEET_PLAN_SHORT));
+    expect("stack, nothing", answers(sheet_read_stack(NULL, 0, NULL, 0, NULL, 0, NULL, 0), SHEET_PLAN_SHORT));
+    expect("stack, plan alone", answers(sheet_read_stack(plan_n, n, NULL, 0, NULL, 0, NULL, 0), SHEET_STACK_FORM));
+    expect("stack, no stack", answers(sheet_read_stack(plan_n, n, NULL, 0, numbers, 16, NULL, 0), SHEET_STACK_FORM));
+    expect("stack, no numbers", answers(sheet_read_stack(plan_n, n, stack, 9, NULL, 0, NULL, 0), SHEET_NUMBERS_LENGTH));
+    expect("stack, no sheets", answers(sheet_read_stack(plan_n, n, no_sheets, 2, NULL, 0, NULL, 0), SHEET_OK));
+    expect("stack, no sheets of S", answers(sheet_read_stack(plan_s, s, no_sheets, 2, NULL, 0, NULL, 0), SHEET_OK));
+    expect("a refusal leaves the stack", stack[8] == 2 && numbers[0] == 0xaa && numbers[1] == 0);
+    expect("stack, k = 0", answers(sheet_read_stack(plan_n, n, stack, 9, numbers, 16, NULL, 0), SHEET_OK));
+    expect("its sheet is mended", stack[8] == 0 && sheet_answer_cells(sheet_stack_answer(numbers, 0)) == 1);
+    expect("a header of no sheets", sheet_stack_bytes(NULL, 0, 0) == 2);
+    sheet_stack_header(NULL, 0, NULL, 0, no_sheets);
+    expect("has two bytes", no_sheets[0] == 0 && no_sheets[1] == 0);
 
     expect("write, malloc(0)", answers(sheet_write(plan_n, sizeof plan_n, none, 0, sheet, 1), SHEET_OK));
     expect("read, malloc(0)", answers(sheet_read(plan_n, sizeof plan_n, sheet, 1, none, 0), SHEET_OK));

@@ -57,12 +57,16 @@ impl Answer {
         [self.cells, self.top, self.left, self.height, self.width]
     }
 
-    pub fn pack(self) -> u64 {
+    /// All eight fields, from the lowest bit up: what a stack tells of each sheet.
+    pub fn fields(self) -> [u64; 8] {
         let [cells, top, left, height, width] = self.mended();
-        let fields = [self.number, self.p, self.q, cells, top, left, height, width];
+        [self.number, self.p, self.q, cells, top, left, height, width]
+    }
+
+    pub fn pack(self) -> u64 {
         let mut packed = 0;
         let mut shift = 0;
-        for (field, bits) in fields.into_iter().zip(BITS) {
+        for (field, bits) in self.fields().into_iter().zip(BITS) {
             assert!(field >> bits == 0, "{field} does not fit in {bits} bits");
             packed |= field << shift;
             shift += bits;

@@ -1,5 +1,5 @@
 //! The small plans of document 01 and what they do ("Small plans and what they do"), and sums of runs,
-//! alterations and pairs of scans that are worked out by hand.
+//! alterations, pairs of scans and stacks that are worked out by hand.
 
 use std::ops::Range;
 
@@ -274,5 +274,71 @@ pub fn two_cases() -> Vec<TwoCase> {
         rows([[0x01, 0x02, 0x03], [0x00, 0x00, 0x00]], Err(19), Some(0)),
         // The light sheet, and with the only data cell, (2, 1), turned over.
         rows([[0x00, 0x00, 0x00], [0x00, 0x00, 0x02]], Ok(0x00), Some(2)),
+    ]
+}
+
+/// A stack and the buffers beside it, as they are before a call and after it: stack, numbers, data.
+pub type StackCase = (Plan, [Vec<u8>; 3], [Vec<u8>; 3]);
+
+/// Worked out by hand from cases 3 to 7, `alter_cases` and the header's rule. 0xbb is what a buffer held.
+pub fn stack_cases() -> Vec<StackCase> {
+    let case = |plan: Plan, [stack, after]: [&[u8]; 2], numbers: &[[u8; 16]], data: &[u8]| {
+        let held = [stack.to_vec(), vec![0xbb; 16 * numbers.len()], vec![0xbb; data.len()]];
+        (plan, held, [after.to_vec(), numbers.concat(), data.to_vec()])
+    };
+    let refused = |number, p| [number, 0, p, 0, 0, 0, 0, 0, 0, 0, 0, 0, 0, 0, 0, 0];
+    let clean = refused(0, 0);
+    let mended = |cells, top, left, height, width| {
+        [0, 0, 0, 0, 0, 0, cells, 0, top, 0, left, 0, height, 0, width, 0]
+    };
+    vec![
+        // No sheets: the count alone.
+        case(plan_s(), [&[0, 0], &[0, 0]], &[], &[]),
+        // Case 6 of 01 in room 1: 03 05 is mended to 05 05, two cells of row 0 from column 1 on.
+        case(
+            plan_t(),
+            [&[1, 0, 1, 0, 8, 0, 0, 0, 0x03, 0x05], &[1, 0, 1, 0, 8, 0, 0, 0, 0x05, 0x05]],
+            &[mended(2, 0, 1, 1, 2)],
+            &[0x02],
+        ),
+        // Case 4: nothing mends it, and the place of its data stays.
+        case(plan_s(), [&[1, 0, 0, 0, 8, 0, 0, 0, 3, 0, 0]; 2], &[refused(14, 0)], &[0xbb]),
+        // Cases 3 and 4, in rooms 0 and 1: 03 03 01 is mended to 03 03 00, and 03 00 00 stays.
+        case(
+            plan_s(),
+            [
+                &[2, 0, 0, 0, 14, 0, 0, 0, 1, 0, 17, 0, 0, 0, 0x03, 0x03, 0x01, 0x03, 0x00, 0x00],
+                &[2, 0, 0, 0, 14, 0, 0, 0, 1, 0, 17, 0, 0, 0, 0x03, 0x03, 0x00, 0x03, 0x00, 0x00],
+            ],
+            &[mended(1, 2, 0, 1, 1), refused(14, 0)],
+            &[0x02, 0xbb],
+        ),
+        // An unused bit in row 1 of the first, and the second is written from data 01 but for (2, 2).
+        case(
+            plan_s(),
+            [
+                &[2, 0, 1, 0, 14, 0, 0, 0, 1, 0, 17, 0, 0, 0, 0x03, 0x83, 0x40, 0x05, 0x05, 0x04],
+                &[2, 0, 1, 0, 14, 0, 0, 0, 1, 0, 17, 0, 0, 0, 0x03, 0x83, 0x40, 0x05, 0x05, 0x00],
+            ],
+            &[refused(13, 1), mended(1, 2, 2, 1, 1)],
+            &[0xbb, 0x01],
+        ),
+        // Under T, in rooms 1, 0 and 1: an unused bit in row 1; 0a 0a as written from data 01; the same with
+        // (0, 0) turned over.
+        case(
+            plan_t(),
+            [
+                &[
+                    3, 0, 1, 0, 20, 0, 0, 0, 0, 0, 22, 0, 0, 0, 1, 0, 24, 0, 0, 0, 0x05, 0x15,
+                    0x0a, 0x0a, 0x0b, 0x0a,
+                ],
+                &[
+                    3, 0, 1, 0, 20, 0, 0, 0, 0, 0, 22, 0, 0, 0, 1, 0, 24, 0, 0, 0, 0x05, 0x15,
+                    0x0a, 0x0a, 0x0a, 0x0a,
+                ],
+            ],
+            &[refused(13, 1), clean, mended(1, 0, 0, 1, 1)],
+            &[0xbb, 0x01, 0x01],
+        ),
     ]
 }

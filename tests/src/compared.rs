@@ -10,6 +10,7 @@ use crate::pairs::{difference_of, row_places};
 use crate::plan::Plan;
 use crate::rng::Rng;
 use crate::scans::{random_burst, random_data, turned};
+use crate::stacks::Lent;
 
 /// The library's answer to a plan, which must be the model's.
 pub fn plan_test(library: &mut Library, bytes: &[u8]) -> u64 {
@@ -238,6 +239,37 @@ impl Harness {
         assert_eq!(row.as_ptr(), second[expected.start..].as_ptr(), "the part lies elsewhere");
         assert!(row == &second[expected.clone()]);
         expected
+    }
+
+    /// Read a stack by the library in these buffers. Answer and every byte of them must be the model's; they
+    /// are handed back as they are left.
+    pub fn read_stack(&mut self, plan: &[u8], lent: &Lent) -> (u64, Lent) {
+        self.stack_beside(plan, lent, |lent| {
+            model::read_stack(plan, &mut lent.stack, &mut lent.numbers, &mut lent.data)
+        })
+    }
+
+    /// The same under a plan that is known to be accepted.
+    pub fn stack_read(&mut self, plan: &Plan, lent: &Lent) -> (u64, Lent) {
+        self.stack_beside(&plan.encode(), lent, |lent| {
+            model::read_stack_accepted(plan, &mut lent.stack, &mut lent.numbers, &mut lent.data)
+        })
+    }
+
+    fn stack_beside(
+        &mut self,
+        plan: &[u8],
+        lent: &Lent,
+        by_model: impl FnOnce(&mut Lent) -> Answer,
+    ) -> (u64, Lent) {
+        let (mut left, mut expected) = (lent.clone(), lent.clone());
+        let answer = self.library.read_stack(plan, &mut left);
+        let told = by_model(&mut expected);
+        assert_eq!(answer, told.pack(), "library {:?}, model {told:?}", Answer::unpack(answer));
+        assert!(left.stack == expected.stack, "the stack differs from the model's");
+        assert!(left.numbers == expected.numbers, "the numbers differ from the model's");
+        assert!(left.data == expected.data, "the data differs from the model's");
+        (answer, left)
     }
 
     /// A sheet that the library wrote from random data, compared with the model's.

@@ -1,9 +1,10 @@
-//! An independent model of the product of document 01 (01-scope.md) and of requests a, c, d, e, f and g
-//! of document 02 (02-change-requests.md), written from their words alone, and what the tests and timings
+//! An independent model of the product of document 01 (01-scope.md) and of requests a and c to h of
+//! document 02 (02-change-requests.md), written from their words alone, and what the tests and timings
 //! of libsheet.a need beside it.
 //!
 //! Words: a row is a course of 01, a column a needle, a burst a blot, a syndrome the two sums of a
-//! sheet, a check cell a cell of the check list, a scan a sheet as one head read it from the film.
+//! sheet, a check cell a cell of the check list, a scan a sheet as one head read it from the film. A stack
+//! is sheets in one buffer, each with a room.
 
 pub mod answer;
 pub mod cases;
@@ -24,5 +25,6 @@ pub mod positions;
 pub mod rng;
 pub mod runs;
 pub mod scans;
+pub mod stacks;
 pub mod tally;
 pub mod yardstick;

@@ -12,6 +12,11 @@ impl Tally {
         self.0[Answer::unpack(packed).number as usize] += 1;
     }
 
+    /// Count what another has met.
+    pub fn add(&mut self, other: &Tally) {
+        self.0.iter_mut().zip(other.0).for_each(|(count, more)| *count += more);
+    }
+
     /// How often this number was met.
     pub fn met(&self, number: usize) -> u64 {
         self.0[number]

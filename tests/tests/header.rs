@@ -1,25 +1,20 @@
-//! What include/sheet.h tells a caller besides the answers: the stack that is enough, and null where
-//! a length is 0.
-
-use std::thread;
+//! What include/sheet.h tells a caller besides the answers: its numbers, and null where a length is 0.
 
 use sheet_tests::answer::Answer;
 use sheet_tests::cases::{plan_s, plan_t};
 use sheet_tests::ffi::{
-    alter, first_difference, house_plan, part, plan_make, read_two, sums, SHEET,
+    alter, first_difference, house_plan, part, plan_make, read_stack, read_two, sums, SHEET,
 };
 use sheet_tests::given::{Given, HOUSE};
 use sheet_tests::header::constant;
-use sheet_tests::make::{
-    largest_4x4, no_data, powers_1x1, powers_3x3, CellOrder, H_3X3, H_4X4, H_EVEN, SINGLE, V_EVEN,
-    WIDE,
-};
+use sheet_tests::make::no_data;
 use sheet_tests::model;
-use sheet_tests::pairs::{difference_of, hopeless, row_places};
-use sheet_tests::plan::{Plan, HEADER_LEN};
+use sheet_tests::pairs::difference_of;
+use sheet_tests::plan::HEADER_LEN;
 use sheet_tests::rng::Rng;
 use sheet_tests::runs::whole;
-use sheet_tests::scans::{burst, dark_sheet, random_data, turned};
+use sheet_tests::scans::{dark_sheet, turned};
+use sheet_tests::stacks::Lent;
 
 /// The numbers of the checks that the maker brings.
 #[test]
@@ -45,6 +40,13 @@ fn number_of_two_scans() {
     assert_eq!(constant("SHEET_DATA_DIFFER"), 19);
 }
 
+/// The numbers of the checks that a stack brings, its most sheets, and the bytes of a sheet's numbers.
+#[test]
+fn numbers_of_a_stack() {
+    assert_eq!([constant("SHEET_STACK_FORM"), constant("SHEET_NUMBERS_LENGTH")], [20, 21]);
+    assert_eq!([constant("SHEET_STACK_SHEETS"), constant("SHEET_STACK_NUMBERS")], [64, 16]);
+}
+
 #[test]
 fn length_of_a_plans_header() {
     assert_eq!(constant("SHEET_PLAN_HEADER_BYTES"), HEADER_LEN);
@@ -53,190 +55,6 @@ fn length_of_a_plans_header() {
 #[test]
 fn length_of_the_house_plan() {
     assert_eq!(constant("SHEET_HOUSE_PLAN_BYTES"), HOUSE.plan_len());
-}
-
-/// Make a call in a thread that has this much stack in all, for the call and for itself.
-fn with_stack<T: Send + 'static>(bytes: usize, call: impl FnOnce() -> T + Send + 'static) -> T {
-    let thread = thread::Builder::new().stack_size(bytes);
-    let call = thread.spawn(call).expect("a thread can be started");
-    call.join().expect("the call returns")
-}
-
-/// Plans of full size.
-fn large_plans(rng: &mut Rng) -> [Plan; 3] {
-    [
-        powers_1x1(CellOrder::Scattered, rng),
-        powers_3x3(512, 698, CellOrder::Sheet, rng),
-        largest_4x4(CellOrder::Sheet, rng),
-    ]
-}
-
-/// Full size, with all numbers that come after the tables: made, 8, 9 and 16.
-#[test]
-fn stack_of_making() {
-    let enough = constant("SHEET_PLAN_MAKE_STACK");
-    for (given, number) in [
-        (Given::new([512, 698, 1, 1], SINGLE, SINGLE), 0),
-        (HOUSE, 0),
-        (Given::new([512, 698, 3, 3], WIDE, WIDE), 0),
-        (Given::new([8, 698, 4, 4], WIDE, H_4X4), 0),
-        (Given::new([512, 698, 4, 4], WIDE, H_4X4), 8),
-        (Given::new([8, 698, 4, 4], WIDE, H_3X3), 9),
-        (Given::new([512, 698, 3, 3], V_EVEN, H_EVEN), 16),
-    ] {
-        let len = given.plan_len();
-        let (mut plan, mut expected) = (vec![0xff; len], vec![0xff; len]);
-        let told = model::make(&given, &mut expected);
-        assert_eq!(told.number, number, "{given:?}");
-        let (answer, plan) = with_stack(enough, move || {
-            let answer = plan_make(&given, &mut plan, false);
-            (answer, plan)
-        });
-        assert_eq!(Answer::unpack(answer), told, "{given:?}");
-        assert!(plan == expected, "{given:?}");
-    }
-}
-
-/// The same stack is enough for the house plan, and for turning it back.
-#[test]
-fn stack_of_the_house_plan() {
-    let enough = constant("SHEET_PLAN_MAKE_STACK");
-    for (len, number) in [(HOUSE.plan_len(), 0), (HOUSE.plan_len() - 1, 5)] {
-        let (mut plan, mut expected) = (vec![0xff; len], vec![0xff; len]);
-        assert_eq!(model::house_plan(&mut expected).number, number);
-        let (answer, plan) = with_stack(enough, move || {
-            let answer = house_plan(&mut plan, false);
-            (answer, plan)
-        });
-        assert!(answer == number && plan == expected, "{answer:#x} in {len}");
-    }
-}
-
-#[test]
-fn stack_of_the_plan_test() {
-    let enough = constant("SHEET_PLAN_TEST_STACK");
-    for plan in large_plans(&mut Rng::new(1)) {
-        let bytes = plan.encode();
-        assert_eq!(with_stack(enough, move || SHEET.plan_test(&bytes)), 0);
-    }
-}
-
-/// The scan has a full burst in the last corner, where a search in sheet order comes last.
-#[test]
-fn stack_of_writing_and_reading() {
-    let enough = constant("SHEET_WRITE_READ_STACK");
-    let mut rng = Rng::new(2);
-    for plan in large_plans(&mut rng) {
-        let bytes = plan.encode();
-        let data = random_data(&plan, &mut rng);
-        let written = model::write_sheet(&plan, &data);
-
-        let (bytes_there, data_there, mut sheet) = (bytes.clone(), data.clone(), written.clone());
-        sheet.fill(0xff);
-        let (answer, sheet) =
-            with_stack(enough, move || (SHEET.write(&bytes_there, &data_there, &mut sheet), sheet));
-        assert!(answer == 0 && sheet == written);
-
-        let cells = burst(&plan, plan.n1 - plan.b1, plan.n2 - plan.b2, u32::MAX);
-        let mut scan = turned(&plan, &written, &cells);
-        let mut into = vec![0xff; data.len()];
-        let (answer, scan, into) =
-            with_stack(enough, move || (SHEET.read(&bytes, &mut scan, &mut into), scan, into));
-        assert_eq!(answer, model::smallest_rectangle(&cells).pack());
-        assert!(scan == written && into == data);
-    }
-}
-
-/// The whole sheet, dark in every cell; a run that goes past it; and a refusal by the last check.
-#[test]
-fn stack_of_the_sums() {
-    let enough = constant("SHEET_SUMS_STACK");
-    for plan in large_plans(&mut Rng::new(3)) {
-        for (run, len, number) in [(whole(&plan), 8, 0), (1..u32::MAX, 8, 0), (0..1, 7, 24)] {
-            let (bytes, sheet) = (plan.encode(), dark_sheet(&plan));
-            let (mut into, mut expected) = (vec![0xff; len], vec![0xff; len]);
-            let told = model::sums_accepted(&plan, &sheet, run.clone(), &mut expected);
-            assert_eq!(told.number, number);
-            let (answer, into) = with_stack(enough, move || {
-                let answer = sums(&bytes, &sheet, run, &mut into, false);
-                (answer, into)
-            });
-            assert!(answer == told.pack() && into == expected, "{answer:#x} in {len}");
-        }
-    }
-}
-
-/// The first position and the last, and refusals by the last two checks.
-#[test]
-fn stack_of_altering() {
-    let enough = constant("SHEET_ALTER_STACK");
-    let mut rng = Rng::new(4);
-    for plan in large_plans(&mut rng) {
-        let written = model::write_sheet(&plan, &random_data(&plan, &mut rng));
-        let wrong = turned(&plan, &written, &[(plan.n1 - 1, plan.n2 - 1)]);
-        let last = plan.data_bits() as u32 - 1;
-        for (sheet, position, number) in
-            [(&written, 0, 0), (&written, last, 0), (&wrong, last + 1, 17), (&wrong, last, 18)]
-        {
-            let (bytes, mut left, mut expected) = (plan.encode(), sheet.clone(), sheet.clone());
-            let told = model::alter_accepted(&plan, &mut expected, position);
-            assert_eq!(told.number, number);
-            let (answer, left) = with_stack(enough, move || {
-                let answer = alter(&bytes, &mut left, position, false);
-                (answer, left)
-            });
-            assert!(answer == told.pack() && left == expected, "{answer:#x} at {position}");
-        }
-    }
-}
-
-/// A full burst in the last corner of each scan, and refusals by the last two checks.
-#[test]
-fn stack_of_reading_two() {
-    let enough = constant("SHEET_READ_TWO_STACK");
-    let mut rng = Rng::new(5);
-    for plan in large_plans(&mut rng) {
-        let [written, other] =
-            [(); 2].map(|()| model::write_sheet(&plan, &random_data(&plan, &mut rng)));
-        let cells = burst(&plan, plan.n1 - plan.b1, plan.n2 - plan.b2, u32::MAX);
-        let scan = turned(&plan, &written, &cells);
-        let lost = hopeless(&plan, &mut rng).expect("not every sheet can be mended");
-        for (first, second, number) in [
-            (&scan, &scan, 0),
-            (&lost, &scan, 0),
-            (&scan, &lost, 0),
-            (&lost, &lost, 14),
-            (&scan, &other, 19),
-        ] {
-            let (bytes, first, second) = (plan.encode(), first.clone(), second.clone());
-            let (mut data, mut expected) =
-                (vec![0xff; plan.data_len()], vec![0xff; plan.data_len()]);
-            let told = model::read_two_accepted(&plan, &first, &second, &mut expected);
-            assert_eq!(told.number, number);
-            let (answer, data) = with_stack(enough, move || {
-                let answer = read_two(&bytes, &first, &second, &mut data, false);
-                (answer, data)
-            });
-            assert!(answer == told.pack() && data == expected, "{answer:#x}, not {number}");
-        }
-    }
-}
-
-/// Scans that differ in the last cell alone, and scans that do not differ.
-#[test]
-fn stack_of_the_difference() {
-    let enough = constant("SHEET_DIFFERENCE_STACK");
-    for plan in large_plans(&mut Rng::new(6)) {
-        let first = dark_sheet(&plan);
-        let last = turned(&plan, &first, &[(plan.n1 - 1, plan.n2 - 1)]);
-        let told = difference_of(&row_places(&plan, plan.n1 - 1));
-        for (second, told) in [(last, told), (first.clone(), 0)] {
-            let (bytes, first) = (plan.encode(), first.clone());
-            let difference =
-                with_stack(enough, move || first_difference(&bytes, &first, &second, false));
-            assert_eq!(difference, told);
-        }
-    }
 }
 
 /// Bytes, or none if a bit of `empty` says so.
@@ -347,6 +165,37 @@ fn null_scans() {
             assert_eq!(row.is_empty(), empty & 7 != 0);
             assert_eq!(difference, difference_of(&row));
             assert_eq!(part(&second, difference), &second[row]);
+        }
+    }
+}
+
+/// The same for a stack: the plan, the stack, the numbers and the data. A stack of no sheets has two bytes, and takes
+/// null for its numbers and its data; where a plan has no data, one of a sheet takes null for it too.
+#[test]
+fn null_stack() {
+    let with_data = [0, 1, 20, 1, 21, 1, 20, 1, 12, 1, 20, 1, 21, 1, 20, 1];
+    let without = [0, 1, 20, 1, 21, 1, 20, 1, 0, 1, 20, 1, 21, 1, 20, 1];
+    let no_sheets = [0, 1, 20, 1].repeat(4);
+    let mut rng = Rng::new(8);
+    for (plan, one_sheet) in [(plan_s(), with_data), (plan_t(), with_data), (no_data(), without)] {
+        for (rooms, of) in [(&[1][..], &one_sheet[..]), (&[], &no_sheets)] {
+            for (empty, &number) in of.iter().enumerate() {
+                let sheets = vec![vec![1; plan.sheet_len()]; rooms.len()];
+                let lent = Lent::new(&plan, rooms, &sheets, &mut rng);
+                let bytes = kept(empty, 0, plan.encode());
+                let mut left = Lent {
+                    stack: kept(empty, 1, lent.stack),
+                    numbers: kept(empty, 2, lent.numbers),
+                    data: kept(empty, 3, lent.data),
+                };
+                let mut expected = left.clone();
+                let Lent { stack, numbers, data } = &mut expected;
+                let told = model::read_stack(&bytes, stack, numbers, data);
+                assert_eq!(told.number, number, "{empty}");
+                let Lent { stack, numbers, data } = &mut left;
+                assert_eq!(read_stack(&bytes, stack, numbers, data, true), told.pack());
+                assert_eq!(left, expected);
+            }
         }
     }
 }

@@ -8,6 +8,7 @@ use sheet_tests::positions::random_position;
 use sheet_tests::rng::Rng;
 use sheet_tests::runs::random_run;
 use sheet_tests::scans::{random_burst, random_data, random_sheet, turned};
+use sheet_tests::stacks::{bad_stacks, random_rooms, told_of, Lent};
 use sheet_tests::tally::Tally;
 use sheet_tests::yardstick;
 
@@ -149,4 +150,44 @@ fn yardstick_of_two_scans_agrees() {
     assert!(rows >= 1000);
     let least = [(0..=0, 1000), (11..=14, 100), (19..=19, 100)];
     tally.require("plain reading of two scans", &least);
+}
+
+/// So does the reading of stacks: good and damaged plans, good and bad stacks, sheets of every kind, buffers of right
+/// and wrong lengths.
+#[test]
+fn yardstick_of_stacks_agrees() {
+    let mut rng = Rng::new(23);
+    let (mut tally, mut of_sheets) = (Tally::default(), Tally::default());
+    for (b1, b2) in burst_sizes() {
+        for _ in 0..20 {
+            let plan = accepted(&mut rng, b1, b2, 10);
+            for _ in 0..10 {
+                let bytes = if rng.one_in(6) { damaged(&plan, &mut rng) } else { plan.encode() };
+                let count = rng.below(6);
+                let rooms = random_rooms(count, &mut rng);
+                let mut lent = Lent::random(&plan, &rooms, &mut rng);
+                if rng.one_in(6) {
+                    let bad = bad_stacks(&plan, &lent.stack);
+                    lent.stack = bad[rng.below(bad.len())].1.clone();
+                }
+                for buffer in [&mut lent.numbers, &mut lent.data] {
+                    if rng.one_in(8) {
+                        alter_length(buffer, &mut rng);
+                    }
+                }
+                let mut expected = lent.clone();
+                let Lent { stack, numbers, data } = &mut expected;
+                let answer = model::read_stack(&bytes, stack, numbers, data).pack();
+                let Lent { stack, numbers, data } = &mut lent;
+                assert_eq!(yardstick::plain_read_stack(&bytes, stack, numbers, data), answer);
+                assert_eq!(lent, expected);
+                tally.count(answer);
+                for sheet in (0..count).filter(|_| answer == 0) {
+                    of_sheets.count(told_of(&lent.numbers, sheet).pack());
+                }
+            }
+        }
+    }
+    tally.require("plain reading of stacks", &[(0..=0, 1000), (12..=12, 50), (20..=21, 100)]);
+    of_sheets.require("their sheets", &[(0..=0, 1000), (13..=14, 500)]);
 }

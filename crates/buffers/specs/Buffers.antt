@@ -1,4 +1,4 @@
--- The checks of the buffers that a call is lent (document 01, checks 11 to 13; document 02, check 24), each a definition of its own, and the
+-- The checks of the buffers that a call is lent (document 01, checks 11 to 13; document 02, checks 21 and 24), each a definition of its own, and the
 -- checks of a call: a list of these in the order of the document, after the test of the plan.
 --
 --   lengthVerdict    the length of a buffer differs
@@ -6,6 +6,9 @@
 --   sheetLength      check 11, of a sheet buffer        dataLength   check 12, of a data buffer
 --   sheetUnused      check 13, of a sheet handed in     dataUnused   check 13, of data handed in
 --   sumsLength       check 24, of a buffer for two sums
+--   dataLengths      check 12, of a buffer for the data of n sheets
+--   numbersSize      the bytes of the numbers of one sheet of a stack
+--   numbersLength    check 21, of a buffer for the numbers of n sheets
 --   sheetChecks      checks 1 to 11: the plan, and the length of the sheet
 --   lengthChecks     checks 1 to 12, which writing and reading share
 --   writeChecks      the checks before writing: 1 to 12, and 13 of the data
@@ -18,7 +21,7 @@
 --   readTwoChecks    the checks before reading two scans: 1 to 11 of both, 12, and 13 of both
 --
 -- A string of k bits of data is stored as one row of k cells.
-use Prim.Native.Nat.{ℕ}
+use Prim.Native.Nat.{ℕ, _*_}
 use mathlib.Core.Bool.{not}
 use mathlib.Core.List.{List}
 use lib.Dec.{eqb}
@@ -53,6 +56,16 @@ dataUnused c bits = unusedVerdict 1 (dataSize c) bits
 -- 8 bytes: two sums of 32 bits
 abbrev pub sumsLength : List ℕ → Verdict
 sumsLength sums = lengthVerdict 24 sums 8
+
+abbrev pub dataLengths : Code → ℕ → List ℕ → Verdict
+dataLengths c n bits = lengthVerdict 12 bits (n * rowBytes (dataSize c))
+
+-- eight numbers of 16 bits
+abbrev pub numbersSize : ℕ
+numbersSize = 16
+
+abbrev pub numbersLength : ℕ → List ℕ → Verdict
+numbersLength n numbers = lengthVerdict 21 numbers (n * numbersSize)
 
 unfoldable pub sheetChecks : List ℕ → List ℕ → Verdict
 sheetChecks plan sheet = planVerdict plan orElse sheetLength (codeOf plan) sheet

@@ -4,12 +4,15 @@ ghost use Prim.Native.Nat.{_+_, _-_, _*_, _≤_};
 ghost use lib.ListN.{length};
 ghost use Rattle.layout.specs.Cells.{rowBytes, sheetBytes};
 ghost use Rattle.plan.specs.Header.{Small};
-ghost use Rattle.buffers.specs.Buffers.{lengthVerdict, unusedVerdict};
+ghost use Rattle.buffers.specs.Buffers.{lengthVerdict, unusedVerdict, numbersSize};
 use layout::cells::first_unused;
 use layout::cells::row_bytes;
 use plan::header::Header;
 use plan::verdict::Verdict;
 use plan::verdict::refuse_if;
+
+// The bytes of the numbers of one sheet of a stack: eight of 16 bits.
+pub const NUMBERS_SIZE: usize = 16;
 
 // The length of a buffer, as check number.
 fn length_verdict(number: usize, s: &[u8], size: usize) -> Verdict
@@ -94,4 +97,22 @@ pub fn sums_length(sums: &[u8]) -> Verdict
     ensures { λ r. ⌜ r ≡ lengthVerdict 24 (now (sums .entry)) 8 ⌝ }
 {
     length_verdict(24, sums, 8)
+}
+
+// Check 12: the length of a buffer for the data of so many sheets.
+pub fn data_lengths(h: Header, count: usize, bits: &[u8]) -> Verdict
+    requires { ⌜ Small h ⌝ }
+    requires { ⌜ h .rv + h .rh ≤ h .n1 * h .n2 ⌝ }
+    requires { ⌜ count ≤ 64 ⌝ }
+    ensures { λ r. ⌜ r ≡ lengthVerdict 12 (now (bits .entry)) (count * rowBytes (h .n1 * h .n2 - (h .rv + h .rh))) ⌝ }
+{
+    length_verdict(12, bits, count * data_bytes(h))
+}
+
+// Check 21: the length of a buffer for the numbers of so many sheets.
+pub fn numbers_length(count: usize, numbers: &[u8]) -> Verdict
+    requires { ⌜ count ≤ 64 ⌝ }
+    ensures { λ r. ⌜ r ≡ lengthVerdict 21 (now (numbers .entry)) (count * numbersSize) ⌝ }
+{
+    length_verdict(21, numbers, count * NUMBERS_SIZE)
 }

@@ -1,6 +1,7 @@
 -- The answers of the calls, taken apart: one declaration for each theorem of specs/Answer.antt, of that type.
 --
---   plan-carries, make-carries, write-carries, read-carries, sums-carries, alter-carries, two-carries, difference-carries
+--   plan-carries, make-carries, write-carries, read-carries, sums-carries, alter-carries, two-carries, stack-carries,
+--   difference-carries
 --
 -- Assumes nothing.
 use Prim.Native.Nat.{_-_}
@@ -13,10 +14,11 @@ use Rattle.reader.specs.Read.{readOutcome}
 use Rattle.runsums.specs.RunSums.{sumRun}
 use Rattle.alter.specs.Alter.{alter}
 use Rattle.scans.specs.ReadTwo.{readTwo}
+use Rattle.stack.specs.ReadStack.{readStack}
 use Rattle.difference.specs.Difference.{difference}
 use Rattle.sheet.specs.Calls.{verdictFields, reportFields, planAnswer, makeCall, writeCall, readCall, sumsCall, alterCall}
-use Rattle.sheet.specs.Calls.{readTwoCall, differenceAnswer}
-use Rattle.sheet.proofs.Ranges.{plan-range, make-range, write-range, read-range, sums-range, alter-range, two-range, part-range}
+use Rattle.sheet.specs.Calls.{readTwoCall, readStackCall, differenceAnswer}
+use Rattle.sheet.proofs.Ranges.{plan-range, make-range, write-range, read-range, sums-range, alter-range, two-range, stack-range, part-range}
 use Rattle.promise.specs.Answer as promise
 
 pub plan-carries : promise.PlanCarries
@@ -49,6 +51,11 @@ alter-carries plan sheet d = packed-carries (verdictFields (alter plan sheet d .
 pub two-carries : promise.TwoCarries
 unfolding readTwoCall
 two-carries plan first second bits = packed-carries (verdictFields (readTwo plan first second bits .verdict)) (two-range plan first second bits)
+
+pub stack-carries : promise.StackCarries
+unfolding readStackCall
+stack-carries plan stack numbers bits =
+    packed-carries (verdictFields (readStack plan stack numbers bits .verdict)) (stack-range plan stack numbers bits)
 
 pub difference-carries : promise.DifferenceCarries
 unfolding differenceAnswer

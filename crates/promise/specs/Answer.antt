@@ -8,6 +8,7 @@
 --   SumsCarries    asking for the sums of a run: the number and the places of its verdict, and five zeros
 --   AlterCarries   altering: likewise
 --   TwoCarries     reading two scans: likewise
+--   StackCarries   reading a stack: likewise
 --   DifferenceCarries   asking where two scans first differ: the byte of the second scan where the part starts, and the part's length
 use Prim.Native.Nat.{ℕ, _-_}
 use mathlib.Core.List.{List}
@@ -20,9 +21,10 @@ use Rattle.reader.specs.Read.{readOutcome}
 use Rattle.runsums.specs.RunSums.{sumRun}
 use Rattle.alter.specs.Alter.{alter}
 use Rattle.scans.specs.ReadTwo.{readTwo}
+use Rattle.stack.specs.ReadStack.{readStack}
 use Rattle.difference.specs.Difference.{difference}
 use Rattle.sheet.specs.Calls.{verdictFields, reportFields, planAnswer, makeCall, writeCall, readCall, sumsCall, alterCall}
-use Rattle.sheet.specs.Calls.{readTwoCall, differenceAnswer}
+use Rattle.sheet.specs.Calls.{readTwoCall, readStackCall, differenceAnswer}
 
 abbrev pub PlanCarries : Type 0
 PlanCarries = (plan : List ℕ) → Carries (planAnswer plan) (verdictFields (planVerdict plan))
@@ -48,6 +50,10 @@ AlterCarries = (plan sheet : List ℕ) (d : ℕ) → Carries (alterCall plan she
 abbrev pub TwoCarries : Type 0
 TwoCarries = (plan first second bits : List ℕ)
     → Carries (readTwoCall plan first second bits .answer) (verdictFields (readTwo plan first second bits .verdict))
+
+abbrev pub StackCarries : Type 0
+StackCarries = (plan stack numbers bits : List ℕ)
+    → Carries (readStackCall plan stack numbers bits .answer) (verdictFields (readStack plan stack numbers bits .verdict))
 
 abbrev pub DifferenceCarries : Type 0
 DifferenceCarries = (plan first second : List ℕ)

@@ -6,3 +6,4 @@ pub mod Sums
 pub mod Alter
 pub mod TwoScans
 pub mod Difference
+pub mod Stack

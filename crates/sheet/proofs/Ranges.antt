@@ -5,8 +5,10 @@
 --   sums-fit      number and places of asking for the sums of a run; forms-fit, those of the checks that a sheet is of the right form
 --   alters-fit    number and places of altering
 --   two-fits      number and places of reading two scans
+--   stack-fits    number and places of reading a stack
 --   report-fits   the reader's five numbers
---   plan-range, make-range, write-range, read-range, sums-range, alter-range, two-range   the fields of the answer of each call
+--   plan-range, make-range, write-range, read-range, sums-range, alter-range, two-range, stack-range
+--                 the fields of the answer of each call
 --   part-range    start and length of the part in which two scans first differ
 --   made-range, made-packed   the answer of either call that makes a plan
 --
@@ -14,7 +16,7 @@
 use mathlib.Core.Path.{_≡_, refl, ap}
 use mathlib.Core.Bool.{Bool, true, false, not, cond, _&&_, _||_}
 use mathlib.Core.List.{List}
-use Prim.Native.Nat.{ℕ, _+_, _-_, _<_, _≤_}
+use Prim.Native.Nat.{ℕ, _+_, _-_, _*_, _<_, _≤_}
 use native.Mathlib.Omega.{arith}
 use borrow.Author.Tests.{eqb-true}
 use lib.Dec.{eqb, leb}
@@ -31,6 +33,7 @@ use Rattle.plan.specs.Verdict.{refusal, verdictIf, _orElse_}
 use Rattle.plan.specs.Bytes.{codeOf}
 use Rattle.accept.specs.Verdict.{planVerdict}
 use Rattle.accept.proofs.Range.{SmallVerdict, accepted-fits, else-fits, if-fits, at-fits, plan-fits}
+use Rattle.buffers.specs.Buffers.{numbersSize, numbersLength}
 use Rattle.buffers.specs.Buffers.{lengthVerdict, unusedVerdict, sheetLength, dataLength, sumsLength}
 use Rattle.buffers.specs.Buffers.{sheetChecks, lengthChecks, writeChecks, readChecks, formChecks, sumsChecks, scanLengths, readTwoChecks}
 use Rattle.buffers.proofs.Passing.{bytes-most, size-most, sheet-zero, length-zero, scans-fit}
@@ -51,6 +54,8 @@ use Rattle.difference.specs.declared.Part.{Part}
 use Rattle.difference.specs.Difference.{difference}
 use Rattle.difference.proofs.Outcomes.{part-small}
 use Rattle.alter.specs.Alter.{positionVerdict, belongVerdict, alterChecks, alter}
+use Rattle.stackform.specs.Stack.{sheetCount, stackBroken}
+use Rattle.stack.specs.ReadStack.{sheetSize, dataBytes, stackForm, stackChecks, readStack}
 use Rattle.scans.specs.ReadTwo.{TwoRead, mends, noneVerdict, differVerdict, twoRead, decide, readTwo}
 use Rattle.answer.specs.Answer.{InRange, packed}
 use Rattle.sheet.specs.Calls.{verdictFields, reportFields, makeReply, makeCall}
@@ -161,6 +166,16 @@ two-fits plan first second bits =
     go true o f = f
     go false o f = two-checks-fit plan first second bits
 
+pub stack-fits : (plan stack numbers bits : List ℕ) → SmallVerdict (readStack plan stack numbers bits .verdict)
+unfolding readStack stackChecks
+stack-fits plan stack numbers bits =
+    let c = codeOf plan in
+    let n = sheetCount stack in
+    else-fits (planVerdict plan) _ (plan-fits plan)
+    (λ _. else-fits (stackForm c stack) _ (told-fits (stackBroken (sheetSize c) stack) 20 (omega arith))
+    (λ _. else-fits (numbersLength n numbers) _ (length-fits 21 numbers (n * numbersSize) (omega arith))
+    (λ _. length-fits 12 bits (n * dataBytes c) (omega arith))))
+
 found-fits : (r : Found) → SmallVerdict (foundVerdict r)
 found-fits (Burst top left x) = accepted-fits
 found-fits Nothing = record { number-fits = omega arith; p-fits = omega arith; q-fits = omega arith }
@@ -257,6 +272,10 @@ alter-range plan sheet d = fields-range (alterChecks plan sheet d) (reportAs noR
 pub two-range : (plan first second bits : List ℕ) → InRange (verdictFields (readTwo plan first second bits .verdict))
 two-range plan first second bits =
     fields-range (readTwo plan first second bits .verdict) (reportAs noReport) (two-fits plan first second bits) none-fits
+
+pub stack-range : (plan stack numbers bits : List ℕ) → InRange (verdictFields (readStack plan stack numbers bits .verdict))
+stack-range plan stack numbers bits =
+    fields-range (readStack plan stack numbers bits .verdict) (reportAs noReport) (stack-fits plan stack numbers bits) none-fits
 
 pub read-range : (plan sheet bits : List ℕ)
     → InRange (reportFields (readOutcome plan sheet bits .verdict) (readOutcome plan sheet bits .report))

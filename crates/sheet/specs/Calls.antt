@@ -11,6 +11,7 @@
 --   AlterReply, alterCall   the answer of altering one data bit, packed, and every byte of the sheet after it
 --   ReadTwoReply, readTwoCall   the answer of reading two scans, packed, and every byte of the data buffer after it
 --   differenceAnswer        the row where two scans first differ, packed: the byte of the second scan where it starts, and its length
+--   ReadStackReply, readStackCall   the answer of reading a stack, packed, and every byte of the stack, the numbers and the data buffer after it
 use Prim.Native.Nat.{ℕ, _-_}
 use mathlib.Core.List.{List}
 use Rattle.answer.specs.Answer.{Fields, placesFields, packed, packedPart}
@@ -24,6 +25,7 @@ use Rattle.reader.specs.Read.{readOutcome}
 use Rattle.runsums.specs.RunSums.{sumRun}
 use Rattle.alter.specs.Alter.{alter}
 use Rattle.scans.specs.ReadTwo.{readTwo}
+use Rattle.stack.specs.ReadStack.{Lent, readStack}
 use Rattle.difference.specs.Difference.{difference}
 
 abbrev pub verdictFields : Verdict → Fields
@@ -123,3 +125,15 @@ differenceAnswer plan first second = let p = difference plan first second in pac
 
 abbrev pub readTwoReply : ℕ → List ℕ → ReadTwoReply
 readTwoReply a b = record { answer = a; bits = b }
+
+pub record ReadStackReply : Type 0 where
+  pub answer : ℕ
+  pub left : Lent
+
+unfoldable pub readStackCall : (plan stack numbers bits : List ℕ) → ReadStackReply
+readStackCall plan stack numbers bits =
+    let o = readStack plan stack numbers bits in
+    record { answer = packed (verdictFields (o .verdict)); left = o .left }
+
+abbrev pub readStackReply : ℕ → Lent → ReadStackReply
+readStackReply a l = record { answer = a; left = l }

@@ -4,6 +4,8 @@ ghost use mathlib.Core.Path.{_≡_};
 ghost use Rattle.houseplan.specs.HousePlan.{houseParameters};
 ghost use Rattle.sheet.specs.Calls.{planAnswer, parameters, makeReply, makeCall, writeReply, writeCall, readReply, readCall};
 ghost use Rattle.sheet.specs.Calls.{sumsReply, sumsCall, alterReply, alterCall, readTwoReply, readTwoCall, differenceAnswer};
+ghost use Rattle.sheet.specs.Calls.{readStackReply, readStackCall};
+ghost use Rattle.stack.specs.ReadStack.{lent};
 use accept::test::test;
 use alter::altering::alter;
 use answer::Answer;
@@ -17,6 +19,7 @@ use maker::parameters::Parameters;
 use reader::read::read;
 use runsums::sum_run;
 use scans::reading::read_two;
+use stack::reading::read_stack;
 use writer::writing::write;
 
 // Tests a plan: the number and places of the first check of document 01 that fails, or 0.
@@ -137,4 +140,19 @@ pub extern "C" fn sheet_first_difference(plan: &[u8], first: &[u8], second: &[u8
 {
     let part = differing_part(plan, first, second);
     pack_part(part.start, part.end - part.start)
+}
+
+// Reads a stack of sheets under one plan, from two rooms: each sheet as if it were alone, with its eight numbers.
+#[no_mangle]
+pub extern "C" fn sheet_read_stack(
+    plan: &[u8],
+    stack: &mut [u8],
+    numbers: &mut [u8],
+    bits: &mut [u8],
+) -> u64
+    ensures { λ r. ⌜ readStackReply r (lent (now (stack .exit)) (now (numbers .exit)) (now (bits .exit)))
+        ≡ readStackCall (now (plan .entry)) (now (stack .entry)) (now (numbers .entry)) (now (bits .entry)) ⌝ }
+{
+    let whole = read_stack(plan, stack, numbers, bits);
+    pack_places(whole.number, whole.p, whole.q)
 }

@@ -2,10 +2,13 @@
 
 use std::ops::Range;
 
-use super::{alter, first_difference, house_plan, plan_make, read_two, sums, Archive, SHEET};
+use super::{
+    alter, first_difference, house_plan, plan_make, read_stack, read_two, sums, Archive, SHEET,
+};
 use crate::answer::Answer;
 use crate::given::Given;
 use crate::rng::Rng;
+use crate::stacks::Lent;
 
 /// The calls on guarded buffers: each buffer lies amid random bytes at a random alignment, and
 /// after the call no byte may have changed but those that the call may write. An empty buffer is
@@ -120,6 +123,26 @@ impl Library {
         first.assert_unchanged();
         second.assert_unchanged();
         difference
+    }
+
+    pub fn read_stack(&mut self, plan: &[u8], lent: &mut Lent) -> u64 {
+        let plan = Guarded::new("plan", plan, &mut self.rng);
+        let mut stack = Guarded::new("stack", &lent.stack, &mut self.rng);
+        let mut numbers = Guarded::new("numbers", &lent.numbers, &mut self.rng);
+        let mut data = Guarded::new("data", &lent.data, &mut self.rng);
+        let null = self.rng.one_in(2);
+        let answer = read_stack(
+            plan.content(),
+            stack.content_mut(),
+            numbers.content_mut(),
+            data.content_mut(),
+            null,
+        );
+        plan.assert_unchanged();
+        stack.hand_back(answer, &mut lent.stack);
+        numbers.hand_back(answer, &mut lent.numbers);
+        data.hand_back(answer, &mut lent.data);
+        answer
     }
 }
 

@@ -2,11 +2,13 @@
 
 mod alter;
 mod guarded;
+mod stack;
 mod sums;
 mod two;
 
 pub use alter::{alter, alter_by_register};
 pub use guarded::Library;
+pub use stack::read_stack;
 pub use sums::{sums, sums_by_registers};
 pub use two::{first_difference, part, read_two};
 

@@ -1,7 +1,10 @@
 //! The checks of the buffers that are lent beside the plan, and for each call those that it makes, in
 //! order.
 
+use std::ops::Range;
+
 use super::sheet::{syndrome, unused_bits};
+use super::stack::sheet_places;
 use crate::answer::Answer;
 use crate::plan::Plan;
 
@@ -39,6 +42,19 @@ pub fn check_comparing(plan: &Plan, first: &[u8], second: &[u8]) -> Result<(), A
     sheet_length(plan, second)?;
     unused_of_sheet(plan, first)?;
     unused_of_sheet(plan, second)
+}
+
+/// Reading a stack: checks 20, 21 and 12. Where each of its sheets lies, if none fails.
+pub fn check_reading_stack(
+    plan: &Plan,
+    stack: &[u8],
+    numbers: &[u8],
+    data: &[u8],
+) -> Result<Vec<Range<usize>>, Answer> {
+    let places = stack_form(plan, stack)?;
+    numbers_length(places.len(), numbers)?;
+    data_of_stack_length(plan, places.len(), data)?;
+    Ok(places)
 }
 
 /// Summing a run: checks 11, 13 and 24.
@@ -99,6 +115,21 @@ fn position_of_data(plan: &Plan, position: u32) -> Result<(), Answer> {
 /// Check 18 of a sheet with these two sums, as one number.
 fn belonging(sums: u64) -> Result<(), Answer> {
     Answer::refuse_if(sums != 0, 18)
+}
+
+/// Check 20.
+fn stack_form(plan: &Plan, stack: &[u8]) -> Result<Vec<Range<usize>>, Answer> {
+    sheet_places(plan, stack).ok_or(Answer::refusal(20, 0, 0))
+}
+
+/// Check 21, with so many sheets in the stack.
+fn numbers_length(sheets: usize, numbers: &[u8]) -> Result<(), Answer> {
+    Answer::refuse_if(numbers.len() != 16 * sheets, 21)
+}
+
+/// Check 12 of the data of a whole stack.
+fn data_of_stack_length(plan: &Plan, sheets: usize, data: &[u8]) -> Result<(), Answer> {
+    Answer::refuse_if(data.len() != sheets * plan.data_len(), 12)
 }
 
 /// Check 24.

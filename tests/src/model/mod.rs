@@ -1,5 +1,5 @@
-//! The nine calls, by the words of documents 01 and 02 (requests a, c, d, e, f and g) and with no eye to
-//! speed beyond what full-size sheets ask for.
+//! The ten calls, by the words of documents 01 and 02 (requests a and c to h) and with no eye to speed beyond
+//! what full-size sheets ask for.
 
 mod accept;
 mod algebra;
@@ -9,21 +9,27 @@ mod maker;
 mod mend;
 mod run;
 mod sheet;
+mod stack;
 mod two;
 
 pub use accept::{accept, accept_by, strip_members, test_plan, window_entries};
 pub use algebra::{independent, solve, Span};
 pub use alter::{altered_data, altered_sheet};
-pub use buffers::{check_altering_by, check_comparing, check_reading_two, check_summing};
+pub use buffers::{
+    check_altering_by, check_comparing, check_reading, check_reading_stack, check_reading_two,
+    check_summing,
+};
 pub use maker::{made_plan, power};
 pub use mend::{burst_by_search, burst_by_trial, smallest_rectangle};
 pub use run::{run_sums, Sums};
 pub use sheet::{cell, data_cells, data_of, syndrome, turn_over, unused_bits, write_sheet, Cell};
+pub use stack::sheet_places;
 pub use two::{data_of_two, differing_row, mended_data};
 
 use std::ops::Range;
 
-use buffers::{check_altering, check_reading, check_writing};
+use buffers::{check_altering, check_writing};
+use stack::read_each;
 
 use crate::answer::Answer;
 use crate::given::{Given, HOUSE};
@@ -155,5 +161,30 @@ pub fn first_difference_accepted(plan: &Plan, first: &[u8], second: &[u8]) -> Ra
     match check_comparing(plan, first, second) {
         Ok(()) => differing_row(plan, first, second),
         Err(_) => 0..0,
+    }
+}
+
+/// Read a stack of sheets, each as if it were alone. A refusal of the whole stack changes nothing.
+pub fn read_stack(plan: &[u8], stack: &mut [u8], numbers: &mut [u8], data: &mut [u8]) -> Answer {
+    match accept(plan) {
+        Ok(plan) => read_stack_accepted(&plan, stack, numbers, data),
+        Err(refusal) => refusal,
+    }
+}
+
+/// `read_stack` under a plan that is known to be accepted: checks 20, 21 and 12; 13 and 14 are told of each
+/// sheet.
+pub fn read_stack_accepted(
+    plan: &Plan,
+    stack: &mut [u8],
+    numbers: &mut [u8],
+    data: &mut [u8],
+) -> Answer {
+    match check_reading_stack(plan, stack, numbers, data) {
+        Ok(places) => {
+            read_each(plan, places, stack, numbers, data);
+            Answer::default()
+        }
+        Err(refusal) => refusal,
     }
 }

@@ -6,10 +6,12 @@ mod best;
 mod maker;
 mod plain;
 mod sheets;
+mod stack;
 mod two;
 
 pub use alter::alter_accepted;
 pub use sheets::{read_accepted, sum_accepted, write_accepted};
+pub use stack::read_stack_accepted;
 pub use two::{first_difference_accepted, read_two_accepted};
 
 use std::ops::Range;
@@ -68,6 +70,12 @@ pub fn plain_read_two(plan: &[u8], first: &[u8], second: &[u8], data: &mut [u8])
 pub fn plain_first_difference(plan: &[u8], first: &[u8], second: &[u8]) -> Range<usize> {
     let plan = accept_by(plan, plain::windows, plain::strips);
     plan.map_or(0..0, |plan| first_difference_accepted(&plan, first, second))
+}
+
+/// Reading a stack in plain Rust: the plain plan test once, the checks of the buffers, and each sheet.
+pub fn plain_read_stack(plan: &[u8], stack: &mut [u8], numbers: &mut [u8], data: &mut [u8]) -> u64 {
+    let plan = accept_by(plan, plain::windows, plain::strips);
+    told(plan.and_then(|plan| read_stack_accepted(&plan, stack, numbers, data)))
 }
 
 fn told<T>(outcome: Result<T, Answer>) -> u64 {

@@ -13,6 +13,7 @@ mod making;
 mod plan_test;
 mod runs;
 mod sheets;
+mod stack;
 mod subject;
 mod timing;
 mod two;
@@ -31,6 +32,7 @@ fn main() {
     alter::alterations();
     two::two_scans();
     two::differences();
+    stack::stacks();
     #[cfg(feature = "before")]
     before::beside();
 }

@@ -1,0 +1,3 @@
+-- The read of a stack of sheets.
+pub mod ReadStack
+pub mod Step
