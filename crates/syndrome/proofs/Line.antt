@@ -82,6 +82,7 @@ module _ (s : List ℕ) (h : Header) (F : Framed s h) (columns : List ℕ) (U : 
     b2-pos = F .small .b2-pos;
     b2-most = F .small .b2-most;
     q-below = mod-lt i (F .small .b1-pos);
+    rows-long = let a = F .small .b2-most in let b = R .size in omega arith;
     rows-below = R .below;
     columns-long = let a = F .small .column-positions in let b = U .size in omega arith;
     columns-below = U .below;

@@ -43,6 +43,7 @@ pub record Words (n2 b1 b2 q : ℕ) (rows columns : List ℕ) : Type 0 where
   pub b2-pos : 1 ≤ b2
   pub b2-most : b2 ≤ 4
   pub q-below : q < b1
+  pub rows-long : b2 ≤ length rows
   pub rows-below : (k : ℕ) → k < b2 → getD rows k 0 < 4294967296
   pub columns-long : n2 * b1 ≤ length columns
   pub columns-below : (k : ℕ) → k < n2 * b1 → getD columns k 0 < 4294967296

@@ -37,15 +37,15 @@ fn byte_sums(
     x: u8,
     j: usize,
     n2: usize,
-    rows: [u64; 4],
+    rows: &[u64],
     b2: usize,
     columns: &[u64],
     b1: usize,
     q: usize,
 ) -> Sums
-    requires { ⌜ Words n2 b1 b2 q rows (now columns) ⌝ }
+    requires { ⌜ Words n2 b1 b2 q (now rows) (now columns) ⌝ }
     requires { ⌜ j < n2 ⌝ }
-    ensures { λ r. ⌜ ByteSums n2 b1 b2 q rows (now (columns .entry)) x j r ⌝ }
+    ensures { λ r. ⌜ ByteSums n2 b1 b2 q (now (rows .entry)) (now (columns .entry)) x j r ⌝ }
 {
     if x == 0 {
         return Sums { row: 0, column: 0 };
@@ -77,14 +77,14 @@ fn row_sums(sheet: &[u8], plan: &[u8], h: Header, columns: &[u64], i: usize, q: 
     requires { ⌜ q ≡ i % h .b1 ⌝ }
     ensures { λ r. ⌜ RowSums (codeWith (now (plan .entry)) h) (cellOf (h .n2) (now (sheet .entry))) i r ⌝ }
 {
-    let rows = row_words(plan, h, i);
+    let words = row_words(plan, h, i);
     let size = row_bytes(h.n2);
     let from = i * size;
     let mut row = 0u64;
     let mut column = 0u64;
     let mut b = 0;
     while b < size {
-        let s = byte_sums(sheet[from + b], 8 * b, h.n2, rows, h.b2, columns, h.b1, q);
+        let s = byte_sums(sheet[from + b], 8 * b, h.n2, &words, h.b2, columns, h.b1, q);
         row = row ^ s.row;
         column = column ^ s.column;
         b += 1;

@@ -13,13 +13,13 @@ use Rattle.syndrome.proofs.gather.row_sums.Statement.{statement}
 use Rattle.syndrome.proofs.gather.row_sums.Tie as tie
 
 abbrev Inv-loop : tie.InvT-loop
-Inv-loop sheet plan h columns i q rows size from row₀ column₀ b₀ row column b =
+Inv-loop sheet plan h columns i q words size from row₀ column₀ b₀ row column b =
     (b ≤ size) × (size ≡ rowBytes (h .n2)) × (from ≡ i * size)
-    × RowWords (λ k. rowEntryAt plan (i * h .b2 + k)) (h .b2) rows
-    × Line (h .n2) (cellOf (h .n2) sheet i) (rowsAt (h .b2) rows) (columnsAt (h .b1) q columns) row column b
+    × RowWords (λ k. rowEntryAt plan (i * h .b2 + k)) (h .b2) words
+    × Line (h .n2) (cellOf (h .n2) sheet i) (rowsAt (h .b2) words) (columnsAt (h .b1) q columns) row column b
 
 abbrev μ-loop : tie.MeasureT-loop
-μ-loop sheet plan h columns i q rows size from row₀ column₀ b₀ row column b = size - b
+μ-loop sheet plan h columns i q words size from row₀ column₀ b₀ row column b = size - b
 
 row-words-requires : tie.Need-row-words-requires Inv-loop μ-loop
 row-words-requires c κs = (c .before .before .before .pre .0, c .before .before .before .pre .1 .1 .1 .0)
@@ -70,12 +70,15 @@ mul-byte-sums : tie.Need-mul-byte-sums Inv-loop μ-loop
 unfolding rowBytes
 mul-byte-sums c = omega arith
 
+slice-aggregate-byte-sums : tie.Need-slice-aggregate-byte-sums Inv-loop μ-loop
+slice-aggregate-byte-sums c = omega (arith, c .before .before .before .loop .inv .3 .size)
+
 byte-sums-requires : tie.Need-byte-sums-requires Inv-loop μ-loop
 unfolding rowBytes
 byte-sums-requires c κs =
-    let start = c .before .before .before .before .before .before .before .before in
+    let start = c .before .before .before .before .before .before .before .before .before in
     let p = start .pre in
-    (rw (p .1 .1 .1 .1) (words-of _ _ (p .0) _ (p .1 .0) _ (p .1 .1 .1 .0) _ (c .before .before .loop .inv .3)), omega arith)
+    (rw (p .1 .1 .1 .1) (words-of _ _ (p .0) _ (p .1 .0) _ (p .1 .1 .1 .0) _ (c .before .before .before .loop .inv .3)), omega arith)
 
 add-b : tie.Need-add-b Inv-loop μ-loop
 add-b c = omega arith
@@ -86,8 +89,8 @@ loop-less c = omega arith
 loop-again : tie.Need-loop-again Inv-loop μ-loop
 unfolding rowBytes
 loop-again c =
-    let v = c .before .before .before .before .before .loop .inv in
-    let b = c .before .before .before .before .before .loop .b in (
+    let v = c .before .before .before .before .before .before .loop .inv in
+    let b = c .before .before .before .before .before .before .loop .b in (
       omega arith,
       v .1,
       refl,
@@ -115,6 +118,7 @@ row-sums-spec =
     add-byte-sums
     shared-slice-read-byte-sums
     mul-byte-sums
+    slice-aggregate-byte-sums
     byte-sums-requires
     add-b
     loop-less
