@@ -12,6 +12,7 @@ ghost use Rattle.alter.specs.Alter.{turnedData, altered, alter};
 use crate::checks::alter_checks;
 use accept::checks::joint_entry;
 use layout::cells::turn;
+use layout::stored::Layout;
 use payload::find::data_cell;
 use plan::entry::header_of;
 use plan::header::Header;
@@ -31,7 +32,7 @@ fn alter_sheet(plan: &[u8], h: Header, position: usize, sheet: &mut [u8])
     let cell = data_cell(plan, h, position);
     let joint = joint_entry(plan, h, cell.row, cell.column);
     turn(sheet, h.n2, cell.row, cell.column);
-    balance(plan, h, joint, sheet);
+    balance(Layout::ByRow, plan, h, joint, sheet);
 }
 
 // Turns the data bit at a position over, or turns back with the sheet as it was.

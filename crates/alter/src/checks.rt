@@ -10,6 +10,7 @@ ghost use Rattle.plan.specs.Table.{Unpacked};
 ghost use Rattle.alter.specs.Alter.{positionVerdict, belongVerdict, alterChecks};
 use buffers::call::form_checks;
 use buffers::lent::data_size;
+use layout::stored::Layout;
 use plan::entry::header_of;
 use plan::header::Header;
 use plan::verdict::Verdict;
@@ -34,7 +35,12 @@ fn belong_verdict(plan: &[u8], h: Header, columns: &[u64], sheet: &[u8]) -> Verd
     requires { ⌜ length (now sheet) ≡ sheetBytes (h .n1) (h .n2) ⌝ }
     ensures { λ r. ⌜ r ≡ belongVerdict (codeWith (now (plan .entry)) h) (now (sheet .entry)) ⌝ }
 {
-    refuse_if(joint_sum(sheet, plan, h, columns) != 0, 18, 0, 0)
+    refuse_if(
+        joint_sum(Layout::ByRow, sheet, plan, h, columns) != 0,
+        18,
+        0,
+        0,
+    )
 }
 
 // The checks before altering. The lent words are room for the column table.

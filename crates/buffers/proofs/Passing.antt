@@ -30,7 +30,11 @@ use lib.Dec.{eqb, ltb}
 use lib.ListN.{length}
 use Rattle.finite.proofs.Search.{least-le}
 use Rattle.layout.specs.Cells.{rowBytes, sheetBytes, firstUnused, RightForm}
-use Rattle.layout.proofs.Form.{form-unused, unused-form, row-sheet}
+use Rattle.layout.specs.Stored.{sizeIn, FormIn, firstUnusedIn}
+use Rattle.layout.specs.declared.stored.Layout.{Layout}
+use Rattle.layout.specs.declared.stored.Layout.the-variants.{ByRow, ByColumn}
+use Rattle.layout.proofs.Form.{row-sheet}
+use Rattle.layout.proofs.Layouts.{in-unused, unused-in}
 use Rattle.boxcode.specs.Code.{Formed}
 use Rattle.boxcode.specs.Check.{dataSize}
 use Rattle.boxcode.proofs.Check.{sheet-cells}
@@ -87,91 +91,95 @@ pub right-length : (number : ℕ) (s : List ℕ) (size : ℕ) → length s ≡ s
 unfolding lengthVerdict
 right-length number s size e = rw (eq-eqb (length s) size e)
 
-pub unused-right : (n1 n2 : ℕ) (s : List ℕ) → length s ≡ sheetBytes n1 n2 → unusedVerdict n1 n2 s .number ≡ 0 → RightForm n1 n2 s
-unfolding unusedVerdict firstUnused
-unused-right n1 n2 s l e =
-    let k = firstUnused n1 n2 s in
-    let n = sheetBytes n1 n2 in
-    let u : n ≤ k = ltb-false k n (if-zero (ltb k n) 12 k 0 e) in
-    let m : k ≤ n = least-le n _ in
-    unused-form n1 n2 s l (omega arith)
+unused-le : (lay : Layout) (n1 n2 : ℕ) (s : List ℕ) → firstUnusedIn lay n1 n2 s ≤ sizeIn lay n1 n2
+unfolding firstUnused
+unused-le ByRow n1 n2 s = least-le (sheetBytes n1 n2) _
+unused-le ByColumn n1 n2 s = least-le (sheetBytes n2 n1) _
 
-pub right-unused : (n1 n2 : ℕ) (s : List ℕ) → RightForm n1 n2 s → unusedVerdict n1 n2 s ≡ accepted
+pub unused-right : (lay : Layout) (n1 n2 : ℕ) (s : List ℕ) → length s ≡ sizeIn lay n1 n2 → unusedVerdict lay n1 n2 s .number ≡ 0 → FormIn lay n1 n2 s
 unfolding unusedVerdict
-right-unused n1 n2 s f = rw (form-unused n1 n2 s f, le-ltb (sheetBytes n1 n2) (sheetBytes n1 n2) (omega arith))
+unused-right lay n1 n2 s l e =
+    let k = firstUnusedIn lay n1 n2 s in
+    let n = sizeIn lay n1 n2 in
+    let u : n ≤ k = ltb-false k n (if-zero (ltb k n) 12 k 0 e) in
+    unused-in lay n1 n2 s l (omega (arith, unused-le lay n1 n2 s))
+
+pub right-unused : (lay : Layout) (n1 n2 : ℕ) (s : List ℕ) → FormIn lay n1 n2 s → unusedVerdict lay n1 n2 s ≡ accepted
+unfolding unusedVerdict
+right-unused lay n1 n2 s f = rw (in-unused lay n1 n2 s f, le-ltb (sizeIn lay n1 n2) (sizeIn lay n1 n2) (omega arith))
 
 -- ---- the checks of a call
 
 number-of : {v : Verdict} → v ≡ accepted → v .number ≡ 0
 number-of e = ap (λ (v : Verdict). v .number) e
 
-pub record SheetFits (plan sheet : List ℕ) : Type 0 where
+pub record SheetFits (lay : Layout) (plan sheet : List ℕ) : Type 0 where
   pub accepted : Accepted plan
-  pub sheet-size : length sheet ≡ sheetBytes (codeOf plan .n1) (codeOf plan .n2)
+  pub sheet-size : length sheet ≡ sizeIn lay (codeOf plan .n1) (codeOf plan .n2)
 
-pub sheet-zero : (plan sheet : List ℕ) → sheetChecks plan sheet .number ≡ 0 → SheetFits plan sheet
+pub sheet-zero : (lay : Layout) (plan sheet : List ℕ) → sheetChecks lay plan sheet .number ≡ 0 → SheetFits lay plan sheet
 unfolding sheetChecks
-sheet-zero plan sheet e =
+sheet-zero lay plan sheet e =
     let p = else-zero (planVerdict plan) _ e in
     record { accepted = accepted-plan plan (p .0); sheet-size = length-right 10 sheet _ (p .1) }
 
-pub sheets-pass : (plan sheet : List ℕ) → SheetFits plan sheet → sheetChecks plan sheet ≡ accepted
+pub sheets-pass : (lay : Layout) (plan sheet : List ℕ) → SheetFits lay plan sheet → sheetChecks lay plan sheet ≡ accepted
 unfolding sheetChecks
-sheets-pass plan sheet F =
+sheets-pass lay plan sheet F =
     else-second (planVerdict plan) _ (number-of (plan-accepted plan (F .accepted))) ∙ right-length 11 sheet _ (F .sheet-size)
 
-pub record Lengths (plan sheet bits : List ℕ) : Type 0 where
+pub record Lengths (lay : Layout) (plan sheet bits : List ℕ) : Type 0 where
   pub accepted : Accepted plan
-  pub sheet-size : length sheet ≡ sheetBytes (codeOf plan .n1) (codeOf plan .n2)
+  pub sheet-size : length sheet ≡ sizeIn lay (codeOf plan .n1) (codeOf plan .n2)
   pub bits-size : length bits ≡ rowBytes (dataSize (codeOf plan))
 
-pub length-zero : (plan sheet bits : List ℕ) → lengthChecks plan sheet bits .number ≡ 0 → Lengths plan sheet bits
+pub length-zero : (lay : Layout) (plan sheet bits : List ℕ) → lengthChecks lay plan sheet bits .number ≡ 0 → Lengths lay plan sheet bits
 unfolding lengthChecks
-length-zero plan sheet bits e =
-    let p = else-zero (sheetChecks plan sheet) _ e in
-    let F = sheet-zero plan sheet (p .0) in
+length-zero lay plan sheet bits e =
+    let p = else-zero (sheetChecks lay plan sheet) _ e in
+    let F = sheet-zero lay plan sheet (p .0) in
     record { accepted = F .accepted; sheet-size = F .sheet-size; bits-size = length-right 11 bits _ (p .1) }
 
-pub lengths-pass : (plan sheet bits : List ℕ) → Lengths plan sheet bits → lengthChecks plan sheet bits ≡ accepted
+pub lengths-pass : (lay : Layout) (plan sheet bits : List ℕ) → Lengths lay plan sheet bits → lengthChecks lay plan sheet bits ≡ accepted
 unfolding lengthChecks
-lengths-pass plan sheet bits L =
-    let F : SheetFits plan sheet = record { accepted = L .accepted; sheet-size = L .sheet-size } in
-    else-second (sheetChecks plan sheet) _ (number-of (sheets-pass plan sheet F)) ∙ right-length 12 bits _ (L .bits-size)
+lengths-pass lay plan sheet bits L =
+    let F : SheetFits lay plan sheet = record { accepted = L .accepted; sheet-size = L .sheet-size } in
+    else-second (sheetChecks lay plan sheet) _ (number-of (sheets-pass lay plan sheet F)) ∙ right-length 12 bits _ (L .bits-size)
 
-pub record MayWrite (plan bits sheet : List ℕ) : Type 0 where
-  pub lengths : Lengths plan sheet bits
+pub record MayWrite (lay : Layout) (plan bits sheet : List ℕ) : Type 0 where
+  pub lengths : Lengths lay plan sheet bits
   pub form : RightForm 1 (dataSize (codeOf plan)) bits
 
-pub record MayRead (plan sheet bits : List ℕ) : Type 0 where
-  pub lengths : Lengths plan sheet bits
-  pub form : RightForm (codeOf plan .n1) (codeOf plan .n2) sheet
+pub record MayRead (lay : Layout) (plan sheet bits : List ℕ) : Type 0 where
+  pub lengths : Lengths lay plan sheet bits
+  pub form : FormIn lay (codeOf plan .n1) (codeOf plan .n2) sheet
 
-pub write-zero : (plan bits sheet : List ℕ) → writeChecks plan bits sheet .number ≡ 0 → MayWrite plan bits sheet
+pub write-zero : (lay : Layout) (plan bits sheet : List ℕ) → writeChecks lay plan bits sheet .number ≡ 0 → MayWrite lay plan bits sheet
 unfolding writeChecks
-write-zero plan bits sheet e =
+write-zero lay plan bits sheet e =
     let k = dataSize (codeOf plan) in
-    let p = else-zero (lengthChecks plan sheet bits) _ e in
-    let L = length-zero plan sheet bits (p .0) in
-    record { lengths = L; form = unused-right 1 k bits (L .bits-size ∙ sym (row-sheet k)) (p .1) }
+    let p = else-zero (lengthChecks lay plan sheet bits) _ e in
+    let L = length-zero lay plan sheet bits (p .0) in
+    record { lengths = L; form = unused-right ByRow 1 k bits (L .bits-size ∙ sym (row-sheet k)) (p .1) }
 
-pub writes-pass : (plan bits sheet : List ℕ) → MayWrite plan bits sheet → writeChecks plan bits sheet ≡ accepted
+pub writes-pass : (lay : Layout) (plan bits sheet : List ℕ) → MayWrite lay plan bits sheet → writeChecks lay plan bits sheet ≡ accepted
 unfolding writeChecks
-writes-pass plan bits sheet w =
-    else-second (lengthChecks plan sheet bits) _ (number-of (lengths-pass plan sheet bits (w .lengths)))
-    ∙ right-unused 1 (dataSize (codeOf plan)) bits (w .form)
+writes-pass lay plan bits sheet w =
+    else-second (lengthChecks lay plan sheet bits) _ (number-of (lengths-pass lay plan sheet bits (w .lengths)))
+    ∙ right-unused ByRow 1 (dataSize (codeOf plan)) bits (w .form)
 
-pub read-zero : (plan sheet bits : List ℕ) → readChecks plan sheet bits .number ≡ 0 → MayRead plan sheet bits
+pub read-zero : (lay : Layout) (plan sheet bits : List ℕ) → readChecks lay plan sheet bits .number ≡ 0 → MayRead lay plan sheet bits
 unfolding readChecks
-read-zero plan sheet bits e =
-    let p = else-zero (lengthChecks plan sheet bits) _ e in
-    let L = length-zero plan sheet bits (p .0) in
-    record { lengths = L; form = unused-right (codeOf plan .n1) (codeOf plan .n2) sheet (L .sheet-size) (p .1) }
+read-zero lay plan sheet bits e =
+    let p = else-zero (lengthChecks lay plan sheet bits) _ e in
+    let L = length-zero lay plan sheet bits (p .0) in
+    record { lengths = L; form = unused-right lay (codeOf plan .n1) (codeOf plan .n2) sheet (L .sheet-size) (p .1) }
 
-pub reads-pass : (plan sheet bits : List ℕ) → MayRead plan sheet bits → readChecks plan sheet bits ≡ accepted
+pub reads-pass : (lay : Layout) (plan sheet bits : List ℕ) → MayRead lay plan sheet bits → readChecks lay plan sheet bits ≡ accepted
 unfolding readChecks
-reads-pass plan sheet bits r =
-    else-second (lengthChecks plan sheet bits) _ (number-of (lengths-pass plan sheet bits (r .lengths)))
-    ∙ right-unused (codeOf plan .n1) (codeOf plan .n2) sheet (r .form)
+reads-pass lay plan sheet bits r =
+    else-second (lengthChecks lay plan sheet bits) _ (number-of (lengths-pass lay plan sheet bits (r .lengths)))
+    ∙ right-unused lay (codeOf plan .n1) (codeOf plan .n2) sheet (r .form)
 
 pub record InForm (plan sheet : List ℕ) : Type 0 where
   pub accepted : Accepted plan
@@ -180,16 +188,16 @@ pub record InForm (plan sheet : List ℕ) : Type 0 where
 pub form-zero : (plan sheet : List ℕ) → formChecks plan sheet .number ≡ 0 → InForm plan sheet
 unfolding formChecks
 form-zero plan sheet e =
-    let p = else-zero (sheetChecks plan sheet) _ e in
-    let F = sheet-zero plan sheet (p .0) in
-    record { accepted = F .accepted; form = unused-right (codeOf plan .n1) (codeOf plan .n2) sheet (F .sheet-size) (p .1) }
+    let p = else-zero (sheetChecks ByRow plan sheet) _ e in
+    let F = sheet-zero ByRow plan sheet (p .0) in
+    record { accepted = F .accepted; form = unused-right ByRow (codeOf plan .n1) (codeOf plan .n2) sheet (F .sheet-size) (p .1) }
 
 pub forms-pass : (plan sheet : List ℕ) → InForm plan sheet → formChecks plan sheet ≡ accepted
 unfolding formChecks
 forms-pass plan sheet F =
-    let S : SheetFits plan sheet = record { accepted = F .accepted; sheet-size = F .form .size } in
-    else-second (sheetChecks plan sheet) _ (number-of (sheets-pass plan sheet S))
-    ∙ right-unused (codeOf plan .n1) (codeOf plan .n2) sheet (F .form)
+    let S : SheetFits ByRow plan sheet = record { accepted = F .accepted; sheet-size = F .form .size } in
+    else-second (sheetChecks ByRow plan sheet) _ (number-of (sheets-pass ByRow plan sheet S))
+    ∙ right-unused ByRow (codeOf plan .n1) (codeOf plan .n2) sheet (F .form)
 
 pub record MaySum (plan sheet sums : List ℕ) : Type 0 where
   pub right : InForm plan sheet
@@ -214,8 +222,8 @@ pub record ScansFit (plan first second : List ℕ) : Type 0 where
 pub scans-fit : (plan first second : List ℕ) → scanLengths plan first second .number ≡ 0 → ScansFit plan first second
 unfolding scanLengths
 scans-fit plan first second e =
-    let p = else-zero (sheetChecks plan first) _ e in
-    let F = sheet-zero plan first (p .0) in
+    let p = else-zero (sheetChecks ByRow plan first) _ e in
+    let F = sheet-zero ByRow plan first (p .0) in
     record { accepted = F .accepted; first-size = F .sheet-size; second-size = length-right 10 second _ (p .1) }
 
 pub record BothInForm (plan first second : List ℕ) : Type 0 where
@@ -226,25 +234,26 @@ pub record BothInForm (plan first second : List ℕ) : Type 0 where
 lengths-both : (plan first second : List ℕ) → BothInForm plan first second → scanLengths plan first second ≡ accepted
 unfolding scanLengths
 lengths-both plan first second B =
-    let S : SheetFits plan first = record { accepted = B .accepted; sheet-size = B .first-form .size } in
-    else-second (sheetChecks plan first) _ (number-of (sheets-pass plan first S)) ∙ right-length 11 second _ (B .second-form .size)
+    let S : SheetFits ByRow plan first = record { accepted = B .accepted; sheet-size = B .first-form .size } in
+    else-second (sheetChecks ByRow plan first) _ (number-of (sheets-pass ByRow plan first S)) ∙ right-length 11 second _ (B .second-form .size)
 
 unused-both : (plan first second : List ℕ) → BothInForm plan first second → scansUnused (codeOf plan) first second ≡ accepted
 unused-both plan first second B =
     let n1 = codeOf plan .n1 in
     let n2 = codeOf plan .n2 in
-    else-second (unusedVerdict n1 n2 first) _ (number-of (right-unused n1 n2 first (B .first-form))) ∙ right-unused n1 n2 second (B .second-form)
+    else-second (unusedVerdict ByRow n1 n2 first) _ (number-of (right-unused ByRow n1 n2 first (B .first-form)))
+    ∙ right-unused ByRow n1 n2 second (B .second-form)
 
 both-unused : (plan first second : List ℕ) → ScansFit plan first second → scansUnused (codeOf plan) first second .number ≡ 0
     → BothInForm plan first second
 both-unused plan first second S e =
     let n1 = codeOf plan .n1 in
     let n2 = codeOf plan .n2 in
-    let p = else-zero (unusedVerdict n1 n2 first) _ e in
+    let p = else-zero (unusedVerdict ByRow n1 n2 first) _ e in
     record {
       accepted = S .accepted;
-      first-form = unused-right n1 n2 first (S .first-size) (p .0);
-      second-form = unused-right n1 n2 second (S .second-size) (p .1);
+      first-form = unused-right ByRow n1 n2 first (S .first-size) (p .0);
+      second-form = unused-right ByRow n1 n2 second (S .second-size) (p .1);
     }
 
 pub both-zero : (plan first second : List ℕ) → scansChecks plan first second .number ≡ 0 → BothInForm plan first second

@@ -1,5 +1,6 @@
 -- The checks of the buffers that a call is lent (document 01, checks 11 to 13; document 02, checks 21 and 24), each a definition of its own, and the
--- checks of a call: a list of these in the order of the document, after the test of the plan.
+-- checks of a call: a list of these in the order of the document, after the test of the plan. Where a check is asked of a sheet,
+-- lay is the layout that the sheet is stored in.
 --
 --   lengthVerdict    the length of a buffer differs
 --   unusedVerdict    an unused bit of a buffer is 1, at the first such byte
@@ -26,7 +27,10 @@ use mathlib.Core.Bool.{not}
 use mathlib.Core.List.{List}
 use lib.Dec.{eqb}
 use lib.ListN.{length}
-use Rattle.layout.specs.Cells.{rowBytes, sheetBytes, firstUnused}
+use Rattle.layout.specs.Cells.{rowBytes}
+use Rattle.layout.specs.Stored.{sizeIn, firstUnusedIn}
+use Rattle.layout.specs.declared.stored.Layout.{Layout}
+use Rattle.layout.specs.declared.stored.Layout.the-variants.{ByRow}
 use Rattle.boxcode.specs.Code.{Code}
 use Rattle.boxcode.specs.Check.{dataSize}
 use Rattle.plan.specs.declared.verdict.Verdict.{Verdict}
@@ -38,20 +42,20 @@ use Rattle.accept.specs.Verdict.{planVerdict}
 unfoldable pub lengthVerdict : ℕ → List ℕ → ℕ → Verdict
 lengthVerdict number s size = verdictIf (not (eqb (length s) size)) (refusal number 0 0)
 
-unfoldable pub unusedVerdict : ℕ → ℕ → List ℕ → Verdict
-unusedVerdict n1 n2 s = let k = firstUnused n1 n2 s in verdictAt (sheetBytes n1 n2) k (refusal 13 k 0)
+unfoldable pub unusedVerdict : Layout → ℕ → ℕ → List ℕ → Verdict
+unusedVerdict lay n1 n2 s = let k = firstUnusedIn lay n1 n2 s in verdictAt (sizeIn lay n1 n2) k (refusal 13 k 0)
 
-abbrev pub sheetLength : Code → List ℕ → Verdict
-sheetLength c sheet = lengthVerdict 11 sheet (sheetBytes (c .n1) (c .n2))
+abbrev pub sheetLength : Layout → Code → List ℕ → Verdict
+sheetLength lay c sheet = lengthVerdict 11 sheet (sizeIn lay (c .n1) (c .n2))
 
 abbrev pub dataLength : Code → List ℕ → Verdict
 dataLength c bits = lengthVerdict 12 bits (rowBytes (dataSize c))
 
-abbrev pub sheetUnused : Code → List ℕ → Verdict
-sheetUnused c sheet = unusedVerdict (c .n1) (c .n2) sheet
+abbrev pub sheetUnused : Layout → Code → List ℕ → Verdict
+sheetUnused lay c sheet = unusedVerdict lay (c .n1) (c .n2) sheet
 
 abbrev pub dataUnused : Code → List ℕ → Verdict
-dataUnused c bits = unusedVerdict 1 (dataSize c) bits
+dataUnused c bits = unusedVerdict ByRow 1 (dataSize c) bits
 
 -- 8 bytes: two sums of 32 bits
 abbrev pub sumsLength : List ℕ → Verdict
@@ -67,29 +71,31 @@ numbersSize = 16
 abbrev pub numbersLength : ℕ → List ℕ → Verdict
 numbersLength n numbers = lengthVerdict 21 numbers (n * numbersSize)
 
-unfoldable pub sheetChecks : List ℕ → List ℕ → Verdict
-sheetChecks plan sheet = planVerdict plan orElse sheetLength (codeOf plan) sheet
+unfoldable pub sheetChecks : Layout → (plan sheet : List ℕ) → Verdict
+sheetChecks lay plan sheet = planVerdict plan orElse sheetLength lay (codeOf plan) sheet
 
-unfoldable pub lengthChecks : List ℕ → List ℕ → List ℕ → Verdict
-lengthChecks plan sheet bits = sheetChecks plan sheet orElse dataLength (codeOf plan) bits
+unfoldable pub lengthChecks : Layout → (plan sheet bits : List ℕ) → Verdict
+lengthChecks lay plan sheet bits = sheetChecks lay plan sheet orElse dataLength (codeOf plan) bits
 
-unfoldable pub writeChecks : List ℕ → List ℕ → List ℕ → Verdict
-writeChecks plan bits sheet = lengthChecks plan sheet bits orElse dataUnused (codeOf plan) bits
+unfoldable pub writeChecks : Layout → (plan bits sheet : List ℕ) → Verdict
+writeChecks lay plan bits sheet = lengthChecks lay plan sheet bits orElse dataUnused (codeOf plan) bits
 
-unfoldable pub readChecks : List ℕ → List ℕ → List ℕ → Verdict
-readChecks plan sheet bits = lengthChecks plan sheet bits orElse sheetUnused (codeOf plan) sheet
+unfoldable pub readChecks : Layout → (plan sheet bits : List ℕ) → Verdict
+readChecks lay plan sheet bits = lengthChecks lay plan sheet bits orElse sheetUnused lay (codeOf plan) sheet
+
+-- all that follow are of sheets by row
 
 unfoldable pub formChecks : List ℕ → List ℕ → Verdict
-formChecks plan sheet = sheetChecks plan sheet orElse sheetUnused (codeOf plan) sheet
+formChecks plan sheet = sheetChecks ByRow plan sheet orElse sheetUnused ByRow (codeOf plan) sheet
 
 unfoldable pub sumsChecks : List ℕ → List ℕ → List ℕ → Verdict
 sumsChecks plan sheet sums = formChecks plan sheet orElse sumsLength sums
 
 unfoldable pub scanLengths : (plan first second : List ℕ) → Verdict
-scanLengths plan first second = sheetChecks plan first orElse sheetLength (codeOf plan) second
+scanLengths plan first second = sheetChecks ByRow plan first orElse sheetLength ByRow (codeOf plan) second
 
 abbrev pub scansUnused : Code → (first second : List ℕ) → Verdict
-scansUnused c first second = sheetUnused c first orElse sheetUnused c second
+scansUnused c first second = sheetUnused ByRow c first orElse sheetUnused ByRow c second
 
 unfoldable pub scansChecks : (plan first second : List ℕ) → Verdict
 scansChecks plan first second = scanLengths plan first second orElse scansUnused (codeOf plan) first second

@@ -5,6 +5,7 @@ ghost use Rattle.accept.specs.Checked.{Checked};
 ghost use Rattle.plan.specs.Header.{Small};
 ghost use Rattle.plan.specs.Verdict.{_orElse_};
 ghost use Rattle.layout.specs.Cells.{sheetBytes};
+ghost use Rattle.layout.specs.declared.stored.Layout.the-variants.{ByRow};
 ghost use Rattle.buffers.specs.Buffers.{unusedVerdict, sheetChecks, lengthChecks, writeChecks, formChecks, sumsChecks};
 ghost use Rattle.buffers.specs.Buffers.{scanLengths, scansChecks, readTwoChecks};
 use crate::lent::data_length;
@@ -13,29 +14,36 @@ use crate::lent::sheet_length;
 use crate::lent::sheet_unused;
 use crate::lent::sums_length;
 use accept::test::test;
+use layout::stored::Layout;
 use plan::entry::header_of;
 use plan::header::Header;
 use plan::verdict::Verdict;
 use plan::verdict::or_else;
 
 // The plan, and the length of the sheet.
-fn sheet_checks(plan: &[u8], sheet: &[u8], words: &mut [u64]) -> Verdict
+fn sheet_checks(lay: Layout, plan: &[u8], sheet: &[u8], words: &mut [u64]) -> Verdict
     requires { ⌜ length (now words) ≡ 2792 ⌝ }
-    ensures { λ r. ⌜ Checked (now (plan .entry)) (sheetChecks (now (plan .entry)) (now (sheet .entry))) r (now (words .exit)) ⌝ }
+    ensures { λ r. ⌜ Checked (now (plan .entry)) (sheetChecks lay (now (plan .entry)) (now (sheet .entry))) r (now (words .exit)) ⌝ }
 {
     let tested = test(plan, words);
     if tested.number != 0 {
         return tested;
     }
-    sheet_length(header_of(plan), sheet)
+    sheet_length(lay, header_of(plan), sheet)
 }
 
 // The plan, and the lengths of the sheet and of the data: all the checks before reading but those of the sheet itself.
-pub fn length_checks(plan: &[u8], sheet: &[u8], bits: &[u8], words: &mut [u64]) -> Verdict
+pub fn length_checks(
+    lay: Layout,
+    plan: &[u8],
+    sheet: &[u8],
+    bits: &[u8],
+    words: &mut [u64],
+) -> Verdict
     requires { ⌜ length (now words) ≡ 2792 ⌝ }
-    ensures { λ r. ⌜ Checked (now (plan .entry)) (lengthChecks (now (plan .entry)) (now (sheet .entry)) (now (bits .entry))) r (now (words .exit)) ⌝ }
+    ensures { λ r. ⌜ Checked (now (plan .entry)) (lengthChecks lay (now (plan .entry)) (now (sheet .entry)) (now (bits .entry))) r (now (words .exit)) ⌝ }
 {
-    let checked = sheet_checks(plan, sheet, words);
+    let checked = sheet_checks(lay, plan, sheet, words);
     if checked.number != 0 {
         return checked;
     }
@@ -43,11 +51,17 @@ pub fn length_checks(plan: &[u8], sheet: &[u8], bits: &[u8], words: &mut [u64]) 
 }
 
 // The checks before writing.
-pub fn write_checks(plan: &[u8], bits: &[u8], sheet: &[u8], words: &mut [u64]) -> Verdict
+pub fn write_checks(
+    lay: Layout,
+    plan: &[u8],
+    bits: &[u8],
+    sheet: &[u8],
+    words: &mut [u64],
+) -> Verdict
     requires { ⌜ length (now words) ≡ 2792 ⌝ }
-    ensures { λ r. ⌜ Checked (now (plan .entry)) (writeChecks (now (plan .entry)) (now (bits .entry)) (now (sheet .entry))) r (now (words .exit)) ⌝ }
+    ensures { λ r. ⌜ Checked (now (plan .entry)) (writeChecks lay (now (plan .entry)) (now (bits .entry)) (now (sheet .entry))) r (now (words .exit)) ⌝ }
 {
-    let lengths = length_checks(plan, sheet, bits, words);
+    let lengths = length_checks(lay, plan, sheet, bits, words);
     if lengths.number != 0 {
         return lengths;
     }
@@ -59,11 +73,11 @@ pub fn form_checks(plan: &[u8], sheet: &[u8], words: &mut [u64]) -> Verdict
     requires { ⌜ length (now words) ≡ 2792 ⌝ }
     ensures { λ r. ⌜ Checked (now (plan .entry)) (formChecks (now (plan .entry)) (now (sheet .entry))) r (now (words .exit)) ⌝ }
 {
-    let checked = sheet_checks(plan, sheet, words);
+    let checked = sheet_checks(Layout::ByRow, plan, sheet, words);
     if checked.number != 0 {
         return checked;
     }
-    sheet_unused(header_of(plan), sheet)
+    sheet_unused(Layout::ByRow, header_of(plan), sheet)
 }
 
 // The checks before the sums of a run.
@@ -81,11 +95,11 @@ fn scan_lengths(plan: &[u8], first: &[u8], second: &[u8], words: &mut [u64]) -> 
     requires { ⌜ length (now words) ≡ 2792 ⌝ }
     ensures { λ r. ⌜ Checked (now (plan .entry)) (scanLengths (now (plan .entry)) (now (first .entry)) (now (second .entry))) r (now (words .exit)) ⌝ }
 {
-    let checked = sheet_checks(plan, first, words);
+    let checked = sheet_checks(Layout::ByRow, plan, first, words);
     if checked.number != 0 {
         return checked;
     }
-    sheet_length(header_of(plan), second)
+    sheet_length(Layout::ByRow, header_of(plan), second)
 }
 
 // Check 13, of two scans: which of them it was is not told.
@@ -93,11 +107,11 @@ fn scans_unused(h: Header, first: &[u8], second: &[u8]) -> Verdict
     requires { ⌜ Small h ⌝ }
     requires { ⌜ length (now first) ≡ sheetBytes (h .n1) (h .n2) ⌝ }
     requires { ⌜ length (now second) ≡ sheetBytes (h .n1) (h .n2) ⌝ }
-    ensures { λ r. ⌜ r ≡ unusedVerdict (h .n1) (h .n2) (now (first .entry)) orElse unusedVerdict (h .n1) (h .n2) (now (second .entry)) ⌝ }
+    ensures { λ r. ⌜ r ≡ unusedVerdict ByRow (h .n1) (h .n2) (now (first .entry)) orElse unusedVerdict ByRow (h .n1) (h .n2) (now (second .entry)) ⌝ }
 {
-    let one = sheet_unused(h, first);
-    let other = sheet_unused(h, second);
-    or_else(one, other)
+    let one = sheet_unused(Layout::ByRow, h, first);
+    let two = sheet_unused(Layout::ByRow, h, second);
+    or_else(one, two)
 }
 
 // The plan, and that two scans are of the right form.

@@ -2,11 +2,15 @@
 ghost use mathlib.Core.Path.{_≡_};
 ghost use Prim.Native.Nat.{_+_, _-_, _*_, _≤_};
 ghost use lib.ListN.{length};
-ghost use Rattle.layout.specs.Cells.{rowBytes, sheetBytes};
+ghost use Rattle.layout.specs.Cells.{rowBytes};
+ghost use Rattle.layout.specs.Stored.{sizeIn};
+ghost use Rattle.layout.specs.declared.stored.Layout.the-variants.{ByRow};
 ghost use Rattle.plan.specs.Header.{Small};
 ghost use Rattle.buffers.specs.Buffers.{lengthVerdict, unusedVerdict, numbersSize};
-use layout::cells::first_unused;
 use layout::cells::row_bytes;
+use layout::stored::Layout;
+use layout::stored::bytes_in;
+use layout::stored::first_unused_in;
 use plan::header::Header;
 use plan::verdict::Verdict;
 use plan::verdict::refuse_if;
@@ -22,11 +26,12 @@ fn length_verdict(number: usize, s: &[u8], size: usize) -> Verdict
 }
 
 // Check 13: the unused bits of n1 rows of n2 cells, in a buffer of their length.
-fn unused_verdict(s: &[u8], n1: usize, n2: usize) -> Verdict
-    requires { ⌜ (n2 ≤ 1000000) × (length (now s) ≡ sheetBytes n1 n2) ⌝ }
-    ensures { λ r. ⌜ r ≡ unusedVerdict n1 n2 (now (s .entry)) ⌝ }
+fn unused_verdict(lay: Layout, s: &[u8], n1: usize, n2: usize) -> Verdict
+    requires { ⌜ (n1 ≤ 1000000) × (n2 ≤ 1000000) ⌝ }
+    requires { ⌜ length (now s) ≡ sizeIn lay n1 n2 ⌝ }
+    ensures { λ r. ⌜ r ≡ unusedVerdict lay n1 n2 (now (s .entry)) ⌝ }
 {
-    let k = first_unused(s, n1, n2);
+    let k = first_unused_in(s, lay, n1, n2);
     refuse_if(k < s.len(), 13, k, 0)
 }
 
@@ -40,11 +45,11 @@ pub fn data_size(h: Header) -> usize
 }
 
 // The bytes of a sheet.
-pub fn sheet_bytes(h: Header) -> usize
+pub fn sheet_bytes(lay: Layout, h: Header) -> usize
     requires { ⌜ Small h ⌝ }
-    ensures { λ r. ⌜ (r ≡ sheetBytes (h .n1) (h .n2)) × (r ≤ 45056) ⌝ }
+    ensures { λ r. ⌜ (r ≡ sizeIn lay (h .n1) (h .n2)) × (r ≤ 45056) ⌝ }
 {
-    h.n1 * row_bytes(h.n2)
+    bytes_in(lay, h.n1, h.n2)
 }
 
 // The bytes of the data.
@@ -57,11 +62,11 @@ pub fn data_bytes(h: Header) -> usize
 }
 
 // Check 11: the length of a sheet buffer.
-pub fn sheet_length(h: Header, sheet: &[u8]) -> Verdict
+pub fn sheet_length(lay: Layout, h: Header, sheet: &[u8]) -> Verdict
     requires { ⌜ Small h ⌝ }
-    ensures { λ r. ⌜ r ≡ lengthVerdict 11 (now (sheet .entry)) (sheetBytes (h .n1) (h .n2)) ⌝ }
+    ensures { λ r. ⌜ r ≡ lengthVerdict 11 (now (sheet .entry)) (sizeIn lay (h .n1) (h .n2)) ⌝ }
 {
-    length_verdict(11, sheet, sheet_bytes(h))
+    length_verdict(11, sheet, sheet_bytes(lay, h))
 }
 
 // Check 12: the length of a data buffer.
@@ -74,12 +79,12 @@ pub fn data_length(h: Header, bits: &[u8]) -> Verdict
 }
 
 // Check 13, of a sheet.
-pub fn sheet_unused(h: Header, sheet: &[u8]) -> Verdict
+pub fn sheet_unused(lay: Layout, h: Header, sheet: &[u8]) -> Verdict
     requires { ⌜ Small h ⌝ }
-    requires { ⌜ length (now sheet) ≡ sheetBytes (h .n1) (h .n2) ⌝ }
-    ensures { λ r. ⌜ r ≡ unusedVerdict (h .n1) (h .n2) (now (sheet .entry)) ⌝ }
+    requires { ⌜ length (now sheet) ≡ sizeIn lay (h .n1) (h .n2) ⌝ }
+    ensures { λ r. ⌜ r ≡ unusedVerdict lay (h .n1) (h .n2) (now (sheet .entry)) ⌝ }
 {
-    unused_verdict(sheet, h.n1, h.n2)
+    unused_verdict(lay, sheet, h.n1, h.n2)
 }
 
 // Check 13, of data.
@@ -87,9 +92,9 @@ pub fn data_unused(h: Header, bits: &[u8]) -> Verdict
     requires { ⌜ Small h ⌝ }
     requires { ⌜ h .rv + h .rh ≤ h .n1 * h .n2 ⌝ }
     requires { ⌜ length (now bits) ≡ rowBytes (h .n1 * h .n2 - (h .rv + h .rh)) ⌝ }
-    ensures { λ r. ⌜ r ≡ unusedVerdict 1 (h .n1 * h .n2 - (h .rv + h .rh)) (now (bits .entry)) ⌝ }
+    ensures { λ r. ⌜ r ≡ unusedVerdict ByRow 1 (h .n1 * h .n2 - (h .rv + h .rh)) (now (bits .entry)) ⌝ }
 {
-    unused_verdict(bits, 1, data_size(h))
+    unused_verdict(Layout::ByRow, bits, 1, data_size(h))
 }
 
 // Check 24: the length of a buffer for two sums.

@@ -30,9 +30,9 @@ use Rattle.boxcode.specs.Burst.{boxCells, patterns, lefts, trials, trialCells, 
 use Rattle.boxcode.specs.Check.{checkNumber, checkAt, checkIndex, runsDown, dataColumn, dataOrder, dataSize, rank, dataCell, fill, belongs, written, dataOf}
 use Rattle.boxcode.specs.Reader.{change, mended, cellCount, rowTouched, columnTouched, reportOf}
 use Rattle.buffers.specs.Buffers.{lengthVerdict, unusedVerdict, sheetChecks, lengthChecks, writeChecks, readChecks}
-use Rattle.writer.specs.Write.{writtenBytes, write}
+use Rattle.writer.specs.Write.{writtenIn, writeIn, write}
 use Rattle.mend.specs.Found.{firstBurst}
-use Rattle.reader.specs.Read.{burstIn, readVerdict, sheetRead, bitsRead, reportRead, readOutcome}
+use Rattle.reader.specs.Read.{burstIn, readVerdict, sheetRead, bitsRead, reportRead, readIn, readOutcome}
 use mathlib.Core.Bool.{xor}
 use Rattle.cases.specs.Table.{Case, testing, writing, reading, table}
 
@@ -49,5 +49,5 @@ unfolding table S T planS planT planBytes planVerdict conditionsVerdict rowsVerd
     pick xorSum rowBytes sheetBytes byteOf cellOf usedBits unusedAt firstUnused tabulate byteFrom bytesOf cellNumber weightSum rowSyndrome
     columnSyndrome boxCells patterns lefts trials trialCells tried hasBurst burstFor checkNumber checkAt checkIndex runsDown dataColumn dataOrder dataSize
     rank dataCell fill belongs written dataOf change mended cellCount rowTouched columnTouched reportOf lengthVerdict unusedVerdict
-    sheetChecks lengthChecks writeChecks readChecks writtenBytes write firstBurst burstIn readVerdict sheetRead bitsRead reportRead readOutcome xor
+    sheetChecks lengthChecks writeChecks readChecks writtenIn writeIn firstBurst burstIn readVerdict sheetRead bitsRead reportRead readIn xor
 cases-hold = refl

@@ -6,8 +6,11 @@
 --   run-sum-next     one place more at the end
 --   run-sum-before   one place more at the front
 --   run-sum-past     places from n on add nothing
+--   run-sum-rest     the run a to b and then what is left up to n, where b may be past n
 --   run-sum-whole    the run 0 to n is the whole sum
 --   run-sum-below    a bound by a power of two
+--   run-sum-equal    equal values give equal sums
+--   run-sum-exchange of a family of sums: the sum of the runs
 --
 -- Assumes nothing.
 use mathlib.Core.Path.{_≡_, sym, ap, _∙_}
@@ -16,7 +19,7 @@ use native.Mathlib.Omega.{arith}
 use Rattle.gf2.specs.Xor.{_⊕_}
 use Rattle.gf2.specs.Sum.{xorSum, runSum}
 use Rattle.gf2.proofs.Xor.{xor-zero-left}
-use Rattle.gf2.proofs.Sum.{sum-none, sum-next, sum-equal, sum-split, sum-below}
+use Rattle.gf2.proofs.Sum.{sum-none, sum-next, sum-equal, sum-split, sum-exchange, sum-below}
 
 module _ (n : ℕ) (f : ℕ → ℕ) where
   pub run-sum-empty : (a b : ℕ) → min b n ≤ a → runSum n f a b ≡ 0
@@ -56,6 +59,12 @@ module _ (n : ℕ) (f : ℕ → ℕ) where
       let e : min b n - a ≡ min (min b n) n - a = omega arith in
       ap (λ (m : ℕ). xorSum m (λ k. f (a + k))) e
 
+  pub run-sum-rest : (a b : ℕ) → a ≤ b → runSum n f a n ≡ runSum n f a b ⊕ runSum n f b n
+  run-sum-rest a b l =
+      let e : min (b + n) n ≡ n = omega arith in
+      let up : (k : ℕ) → runSum n f k (b + n) ≡ runSum n f k n = λ k. run-sum-past k (b + n) ∙ ap (runSum n f k) e in
+      sym (up a) ∙ run-sum-joined a b (b + n) l (omega arith) ∙ ap (λ (v : ℕ). runSum n f a b ⊕ v) (up b)
+
   pub run-sum-below : (w a b : ℕ) → ((k : ℕ) → k < n → f k < 2 ^ w) → runSum n f a b < 2 ^ w
   unfolding runSum
   run-sum-below w a b h = sum-below w (min b n - a) (λ k. f (a + k)) (λ k l. h (a + k) (omega arith))
@@ -65,3 +74,12 @@ module _ (n : ℕ) (f : ℕ → ℕ) where
   run-sum-whole =
       let e : min n n - 0 ≡ n = omega arith in
       ap (λ (m : ℕ). xorSum m (λ k. f (0 + k))) e ∙ sum-equal n (λ k. f (0 + k)) f (λ k l. ap f (omega arith))
+
+pub run-sum-equal : (n : ℕ) (f g : ℕ → ℕ) (a b : ℕ) → ((k : ℕ) → k < n → f k ≡ g k) → runSum n f a b ≡ runSum n g a b
+unfolding runSum
+run-sum-equal n f g a b h = sum-equal (min b n - a) (λ k. f (a + k)) (λ k. g (a + k)) (λ k l. h (a + k) (omega arith))
+
+pub run-sum-exchange : (n m : ℕ) (f : ℕ → ℕ → ℕ) (a b : ℕ)
+    → runSum n (λ i. xorSum m (λ j. f i j)) a b ≡ xorSum m (λ j. runSum n (λ i. f i j) a b)
+unfolding runSum
+run-sum-exchange n m f a b = sum-exchange (min b n - a) m (λ k j. f (a + k) j)

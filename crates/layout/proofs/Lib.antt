@@ -4,4 +4,5 @@ pub mod Form
 pub mod Joined
 pub mod Overwriting
 pub mod Turned
+pub mod Layouts
 pub mod Unused

@@ -2,4 +2,5 @@
 pub mod Number
 pub mod Joined
 pub mod Cells
+pub mod Stored
 pub mod Differ

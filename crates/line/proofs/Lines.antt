@@ -19,11 +19,12 @@ use borrow.Author.Tests.{eqb-true, eqb-false, eq-eqb, ne-eqb}
 use lib.Dec.{eqb}
 use lib.ListN.{length, take, drop, replicate, length-drop}
 use lib.Seq.{take-all}
+use Rattle.layout.specs.declared.stored.Layout.the-variants.{ByRow}
 use Rattle.plan.proofs.Sequence.{else-first, else-still}
 use Rattle.accept.specs.Verdict.{planVerdict}
 use Rattle.accept.proofs.Acceptance.{accepted-plan}
 use Rattle.buffers.specs.Buffers.{sheetChecks, lengthChecks, readChecks}
-use Rattle.reader.specs.Read.{Outcome, readVerdict, readOutcome}
+use Rattle.reader.specs.Read.{Outcome, readVerdict, readIn, readOutcome}
 use Rattle.text.specs.Text.{space, hexText}
 use Rattle.line.specs.Line.{planSize, planPart, sheetPart, dataField, okLine, noLine, lineFrom, dataBytes, lineOf}
 use Rattle.line.specs.Parts.{DataSize}
@@ -53,24 +54,24 @@ rest-part n l = let e = length-drop n l in take-all (length l - n) (drop n l) (o
 -- ---- a plan that is refused
 
 module _ (plan sheet bits : List ℕ) (h : planVerdict plan .number ≡ 0 → ⊥) where
-  sheet-plan : sheetChecks plan sheet ≡ planVerdict plan
+  sheet-plan : sheetChecks ByRow plan sheet ≡ planVerdict plan
   unfolding sheetChecks
   sheet-plan = else-first (planVerdict plan) _ h
 
-  lengths-plan : lengthChecks plan sheet bits ≡ planVerdict plan
+  lengths-plan : lengthChecks ByRow plan sheet bits ≡ planVerdict plan
   unfolding lengthChecks
   lengths-plan = else-still _ h sheet-plan
 
-  checks-plan : readChecks plan sheet bits ≡ planVerdict plan
+  checks-plan : readChecks ByRow plan sheet bits ≡ planVerdict plan
   unfolding readChecks
   checks-plan = else-still _ h lengths-plan
 
-  verdict-plan : readVerdict plan sheet bits ≡ planVerdict plan
+  verdict-plan : readVerdict ByRow plan sheet bits ≡ planVerdict plan
   unfolding readVerdict
   verdict-plan = else-still _ h checks-plan
 
   pub refused-line : lineFrom (readOutcome plan sheet bits) ≡ noLine (planVerdict plan)
-  unfolding readOutcome lineFrom
+  unfolding readIn lineFrom
   refused-line = rw (verdict-plan, ne-eqb (planVerdict plan .number) 0 h, ne-eqb (planVerdict plan .number) 0 h)
 
 pub line-right : (plan sheet : List ℕ) (k : ℕ) → DataSize plan k

@@ -11,6 +11,7 @@ use crate::parts::plan_size;
 use crate::print::put_no;
 use crate::print::put_ok;
 use layout::cells::clear;
+use layout::stored::Layout;
 use reader::read::read;
 
 // The read of one sheet, and its line.
@@ -19,7 +20,7 @@ fn read_line(plan: &[u8], sheet: &mut [u8], bits: &mut [u8], out: &mut [u8]) -> 
     ensures { λ r. ⌜ Put (now (out .entry)) 0 (lineFrom (readOutcome (now (plan .entry)) (now (sheet .entry)) (now (bits .entry)))) (now (out .exit)) r ⌝ }
     ensures { λ r. ⌜ r ≤ length (now (out .entry)) ⌝ }
 {
-    let answer = read(plan, sheet, bits);
+    let answer = read(Layout::ByRow, plan, sheet, bits);
     let verdict = answer.verdict;
     if verdict.number != 0 {
         return put_no(out, verdict);

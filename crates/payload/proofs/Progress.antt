@@ -25,9 +25,11 @@ use lib.ListN.{replicate}
 use Rattle.finite.specs.Search.{bit}
 use Rattle.finite.proofs.Truth.{xor-none, xor-light, and-left, and-right, and-true, and-false, not-true, clash}
 use Rattle.layout.specs.Cells.{sheetBytes, cellOf, bytesOf, turnedIf}
+use Rattle.layout.specs.Stored.{sizeIn, cellIn, bytesIn, turnedIn}
+use Rattle.layout.specs.declared.stored.Layout.{Layout}
+use Rattle.layout.specs.declared.stored.Layout.the-variants.{ByRow}
 use Rattle.finite.proofs.Digits.{bit-none}
-use Rattle.layout.proofs.Form.{bytes-equal, zeros-bytes}
-use Rattle.layout.proofs.Turned.{turned-if-bytes}
+use Rattle.layout.proofs.Layouts.{in-equal, in-zeros, in-turned-bytes}
 use Rattle.boxcode.specs.Code.{Code, Formed, cellNumber}
 use Rattle.boxcode.specs.Syndrome.{Cells}
 use Rattle.boxcode.specs.Check.{Bits, checkAt, checkIndex, dataOrder, dataSize, rank, dataCell, fill, dataOf}
@@ -42,20 +44,20 @@ use Rattle.payload.proofs.Stand.{run-column, run-free, run-bit}
 unfoldable pub shown : (ℕ → ℕ → ℕ) → Cells → ℕ → Cells
 shown u f t i j = ltb (u i j) t && f i j
 
-module _ (n m : ℕ) (u : ℕ → ℕ → ℕ) (f : Cells) where
-  shown-first : replicate (sheetBytes n m) 0 ≡ bytesOf n m (shown u f 0)
+module _ (lay : Layout) (n m : ℕ) (u : ℕ → ℕ → ℕ) (f : Cells) where
+  shown-first : replicate (sizeIn lay n m) 0 ≡ bytesIn lay n m (shown u f 0)
   unfolding shown
-  shown-first = zeros-bytes n m (shown u f 0) (λ i j li lj. ap (λ (b : Bool). b && f i j) (le-ltb (u i j) 0 (omega arith)))
+  shown-first = in-zeros lay n m (shown u f 0) (λ i j li lj. ap (λ (b : Bool). b && f i j) (le-ltb (u i j) 0 (omega arith)))
 
-  shown-all : (t : ℕ) → ((i j : ℕ) → i < n → j < m → u i j < t) → bytesOf n m (shown u f t) ≡ bytesOf n m f
+  shown-all : (t : ℕ) → ((i j : ℕ) → i < n → j < m → u i j < t) → bytesIn lay n m (shown u f t) ≡ bytesIn lay n m f
   unfolding shown
-  shown-all t h = bytes-equal n m (shown u f t) f (λ i j li lj. ap (λ (b : Bool). b && f i j) (lt-ltb (u i j) t (h i j li lj)))
+  shown-all t h = in-equal lay n m (shown u f t) f (λ i j li lj. ap (λ (b : Bool). b && f i j) (lt-ltb (u i j) t (h i j li lj)))
 
   shown-past : (s t : ℕ) → s ≤ t → ((i j : ℕ) → i < n → j < m → s ≤ u i j → u i j < t → f i j ≡ false)
-      → bytesOf n m (shown u f s) ≡ bytesOf n m (shown u f t)
+      → bytesIn lay n m (shown u f s) ≡ bytesIn lay n m (shown u f t)
   unfolding shown
   shown-past s t l light =
-      bytes-equal n m (shown u f s) (shown u f t) (λ i j li lj. go (u i j) (f i j) (light i j li lj) (decLt (u i j) s) (decLt (u i j) t))
+      in-equal lay n m (shown u f s) (shown u f t) (λ i j li lj. go (u i j) (f i j) (light i j li lj) (decLt (u i j) s) (decLt (u i j) t))
     where
       go : (v : ℕ) (b : Bool) → (s ≤ v → v < t → b ≡ false) → Dec (v < s) → Dec (v < t) → (ltb v s && b) ≡ (ltb v t && b)
       go v b e (yes h) d = ap (λ (a : Bool). a && b) (lt-ltb v s h ∙ sym (lt-ltb v t (omega arith)))
@@ -64,10 +66,10 @@ module _ (n m : ℕ) (u : ℕ → ℕ → ℕ) (f : Cells) where
 
   -- cell (i, j) and no other has number t
   shown-next : (i j t : ℕ) → i < n → j < m → u i j ≡ t → ((a b : ℕ) → a < n → b < m → u a b ≡ t → (i ≡ a) × (j ≡ b))
-      → turnedIf (f i j) m (bytesOf n m (shown u f t)) i j ≡ bytesOf n m (shown u f (t + 1))
+      → turnedIn (f i j) lay n m (bytesIn lay n m (shown u f t)) i j ≡ bytesIn lay n m (shown u f (t + 1))
   unfolding shown
   shown-next i j t li lj here only =
-      turned-if-bytes n m (f i j) (shown u f t) (shown u f (t + 1)) i j (λ e. li) (λ e. lj) (λ a b la lb. go a b la lb (ℕ-discrete (u a b) t))
+      in-turned-bytes lay n m (f i j) (shown u f t) (shown u f (t + 1)) i j li lj (λ a b la lb. go a b la lb (ℕ-discrete (u a b) t))
     where
       other : (v : ℕ) → (v ≡ t → ⊥) → Dec (v < t) → ltb v t ≡ ltb v (t + 1)
       other v h (yes l) = lt-ltb v t l ∙ sym (lt-ltb v (t + 1) (omega arith))
@@ -96,49 +98,50 @@ putTo c x t = shown (cellNumber c) (fill c x 0) t
 abbrev pub takenTo : Code → Cells → ℕ → Cells
 takenTo c s t = shown (λ i d. dataCell c d) (λ i d. dataOf c s d) t
 
-module _ (c : Code) (x : Bits) where
-  pub put-first : replicate (sheetBytes (c .n1) (c .n2)) 0 ≡ bytesOf (c .n1) (c .n2) (putTo c x 0)
-  put-first = shown-first (c .n1) (c .n2) (cellNumber c) (fill c x 0)
+module _ (lay : Layout) (c : Code) (x : Bits) where
+  pub put-first : replicate (sizeIn lay (c .n1) (c .n2)) 0 ≡ bytesIn lay (c .n1) (c .n2) (putTo c x 0)
+  put-first = shown-first lay (c .n1) (c .n2) (cellNumber c) (fill c x 0)
 
   -- check cells are light
   put-checks : (t u : ℕ) → t ≤ u → ((v : ℕ) → t ≤ v → v < u → checkAt c v ≡ true)
-      → bytesOf (c .n1) (c .n2) (putTo c x t) ≡ bytesOf (c .n1) (c .n2) (putTo c x u)
+      → bytesIn lay (c .n1) (c .n2) (putTo c x t) ≡ bytesIn lay (c .n1) (c .n2) (putTo c x u)
   unfolding fill
   put-checks t u l checks =
-      shown-past (c .n1) (c .n2) (cellNumber c) (fill c x 0) t u l
+      shown-past lay (c .n1) (c .n2) (cellNumber c) (fill c x 0) t u l
       (λ i j li lj a b.
       ap (λ (d : Bool). cond d (bit 0 (checkIndex c (cellNumber c i j))) (x (rank c (dataOrder c (cellNumber c i j))))) (checks (cellNumber c i j) a b)
       ∙ bit-none (checkIndex c (cellNumber c i j)))
 
-  pub put-all : (t : ℕ) → c .n1 * c .n2 ≤ t → bytesOf (c .n1) (c .n2) (putTo c x t) ≡ bytesOf (c .n1) (c .n2) (fill c x 0)
+  pub put-all : (t : ℕ) → c .n1 * c .n2 ≤ t → bytesIn lay (c .n1) (c .n2) (putTo c x t) ≡ bytesIn lay (c .n1) (c .n2) (fill c x 0)
   put-all t e =
-      shown-all (c .n1) (c .n2) (cellNumber c) (fill c x 0) t
+      shown-all lay (c .n1) (c .n2) (cellNumber c) (fill c x 0) t
       (λ i j li lj. let l : cellNumber c i j < c .n1 * c .n2 = number-on c i j lj li in omega arith)
 
 module _ (c : Code) (F : Formed c) (s : Cells) where
   pub take-first : replicate (sheetBytes 1 (dataSize c)) 0 ≡ bytesOf 1 (dataSize c) (takenTo c s 0)
-  take-first = shown-first 1 (dataSize c) (λ i d. dataCell c d) (λ i d. dataOf c s d)
+  take-first = shown-first ByRow 1 (dataSize c) (λ i d. dataCell c d) (λ i d. dataOf c s d)
 
   -- no data stands in a check cell
   take-checks : (t u : ℕ) → t ≤ u → ((v : ℕ) → t ≤ v → v < u → checkAt c v ≡ true)
       → bytesOf 1 (dataSize c) (takenTo c s t) ≡ bytesOf 1 (dataSize c) (takenTo c s u)
   take-checks t u l checks =
-      shown-past 1 (dataSize c) (λ i d. dataCell c d) (λ i d. dataOf c s d) t u l
+      shown-past ByRow 1 (dataSize c) (λ i d. dataCell c d) (λ i d. dataOf c s d) t u l
       (λ i d li ld a b. clash (checks (dataCell c d) a b) (data-free c F d ld))
 
   pub take-all : (t : ℕ) → c .n1 * c .n2 ≤ t → bytesOf 1 (dataSize c) (takenTo c s t) ≡ bytesOf 1 (dataSize c) (λ i d. dataOf c s d)
   take-all t e =
-      shown-all 1 (dataSize c) (λ i d. dataCell c d) (λ i d. dataOf c s d) t
+      shown-all ByRow 1 (dataSize c) (λ i d. dataCell c d) (λ i d. dataOf c s d) t
       (λ i d li ld. let l : dataCell c d < c .n1 * c .n2 = data-below c F d ld in omega arith)
 
 -- cell (i, j) is a data cell with the number t, and d is the number of its data bit
 module _ (c : Code) (i j t d : ℕ) (li : i < c .n1) (lj : j < c .n2) (number : i * c .n2 + j ≡ t) (free : checkAt c t ≡ false)
     (bit-is : d ≡ rank c (dataOrder c t)) where
-  put-next : (x : Bits) → turnedIf (x d) (c .n2) (bytesOf (c .n1) (c .n2) (putTo c x t)) i j ≡ bytesOf (c .n1) (c .n2) (putTo c x (t + 1))
+  put-next : (lay : Layout) (x : Bits)
+      → turnedIn (x d) lay (c .n1) (c .n2) (bytesIn lay (c .n1) (c .n2) (putTo c x t)) i j ≡ bytesIn lay (c .n1) (c .n2) (putTo c x (t + 1))
   unfolding fill cellNumber
-  put-next x =
-      ap (λ (b : Bool). turnedIf b (c .n2) (bytesOf (c .n1) (c .n2) (putTo c x t)) i j) (sym filled)
-      ∙ shown-next (c .n1) (c .n2) (cellNumber c) (fill c x 0) i j t li lj number only
+  put-next lay x =
+      ap (λ (b : Bool). turnedIn b lay (c .n1) (c .n2) (bytesIn lay (c .n1) (c .n2) (putTo c x t)) i j) (sym filled)
+      ∙ shown-next lay (c .n1) (c .n2) (cellNumber c) (fill c x 0) i j t li lj number only
     where
       filled : fill c x 0 i j ≡ x d
       filled =
@@ -157,7 +160,7 @@ module _ (c : Code) (i j t d : ℕ) (li : i < c .n1) (lj : j < c .n2) (number : 
   unfolding dataOf cellNumber
   take-next F s =
       ap (λ (b : Bool). turnedIf b (dataSize c) (bytesOf 1 (dataSize c) (takenTo c s t)) 0 d) (sym held)
-      ∙ shown-next 1 (dataSize c) (λ i d. dataCell c d) (λ i d. dataOf c s d) 0 d t (omega arith) (rw bit-is (rank-below c F t on free)) there only
+      ∙ shown-next ByRow 1 (dataSize c) (λ i d. dataCell c d) (λ i d. dataOf c s d) 0 d t (omega arith) (rw bit-is (rank-below c F t on free)) there only
     where
       on : t < c .n1 * c .n2
       on = let m : cellNumber c i j < c .n1 * c .n2 = number-on c i j lj li in omega arith
@@ -179,38 +182,41 @@ module _ (c : Code) (F : Formed c) (r : Cursor) (A : At c r) (l : r .row < c .n1
   next-number : (j : ℕ) → r .cell + j + 1 ≡ r .cell + suc j
   next-number j = add-one (r .cell + j) ∙ sym (add-suc (r .cell) j)
 
-  put-run : (x : Bits) (k : ℕ) (bits sheet : List ℕ) → ((d : ℕ) → cellOf k bits 0 d ≡ x d) → sheet ≡ bytesOf (c .n1) (c .n2) (putTo c x (r .cell))
-      → (j : ℕ) → j ≤ runLength (c .n2) r → putRun j k bits (c .n2) sheet r ≡ bytesOf (c .n1) (c .n2) (putTo c x (r .cell + j))
+  put-run : (lay : Layout) (x : Bits) (k : ℕ) (bits sheet : List ℕ) → ((d : ℕ) → cellOf k bits 0 d ≡ x d)
+      → sheet ≡ bytesIn lay (c .n1) (c .n2) (putTo c x (r .cell))
+      → (j : ℕ) → j ≤ runLength (c .n2) r → putRun j k bits lay (c .n1) (c .n2) sheet r ≡ bytesIn lay (c .n1) (c .n2) (putTo c x (r .cell + j))
   unfolding putRun
-  put-run x k bits sheet ex e zero b = e ∙ ap (λ (t : ℕ). bytesOf (c .n1) (c .n2) (putTo c x t)) (sym (add-zero (r .cell)))
-  put-run x k bits sheet ex e (suc j) b =
+  put-run lay x k bits sheet ex e zero b = e ∙ ap (λ (t : ℕ). bytesIn lay (c .n1) (c .n2) (putTo c x t)) (sym (add-zero (r .cell)))
+  put-run lay x k bits sheet ex e (suc j) b =
       let w = run-column c F r A l in
-      ap₂ (λ (d : Bool) (s : List ℕ). turnedIf d (c .n2) s (r .row) (r .column + j)) (ex (bitAt r j)) (put-run x k bits sheet ex e j (omega arith))
+      ap₂ (λ (d : Bool) (s : List ℕ). turnedIn d lay (c .n1) (c .n2) s (r .row) (r .column + j)) (ex (bitAt r j))
+      (put-run lay x k bits sheet ex e j (omega arith))
       ∙ put-next c (r .row) (r .column + j) (r .cell + j) (bitAt r j) l (omega arith) (omega (arith, A .number)) (run-free c F r A l j (omega arith))
-      (run-bit c F r A l j (omega arith)) x
-      ∙ ap (λ (t : ℕ). bytesOf (c .n1) (c .n2) (putTo c x t)) (next-number j)
+      (run-bit c F r A l j (omega arith)) lay x
+      ∙ ap (λ (t : ℕ). bytesIn lay (c .n1) (c .n2) (putTo c x t)) (next-number j)
 
-  take-run : (s : Cells) (sheet bits : List ℕ) → ((i j : ℕ) → cellOf (c .n2) sheet i j ≡ s i j) → bits ≡ bytesOf 1 (dataSize c) (takenTo c s (r .cell))
-      → (j : ℕ) → j ≤ runLength (c .n2) r → takeRun j (c .n2) sheet (dataSize c) bits r ≡ bytesOf 1 (dataSize c) (takenTo c s (r .cell + j))
+  take-run : (lay : Layout) (s : Cells) (sheet bits : List ℕ) → ((i j : ℕ) → cellIn lay (c .n1) (c .n2) sheet i j ≡ s i j)
+      → bits ≡ bytesOf 1 (dataSize c) (takenTo c s (r .cell))
+      → (j : ℕ) → j ≤ runLength (c .n2) r → takeRun j lay (c .n1) (c .n2) sheet (dataSize c) bits r ≡ bytesOf 1 (dataSize c) (takenTo c s (r .cell + j))
   unfolding takeRun
-  take-run s sheet bits es e zero b = e ∙ ap (λ (t : ℕ). bytesOf 1 (dataSize c) (takenTo c s t)) (sym (add-zero (r .cell)))
-  take-run s sheet bits es e (suc j) b =
+  take-run lay s sheet bits es e zero b = e ∙ ap (λ (t : ℕ). bytesOf 1 (dataSize c) (takenTo c s t)) (sym (add-zero (r .cell)))
+  take-run lay s sheet bits es e (suc j) b =
       let w = run-column c F r A l in
-      ap₂ (λ (d : Bool) (b : List ℕ). turnedIf d (dataSize c) b 0 (bitAt r j)) (es (r .row) (r .column + j)) (take-run s sheet bits es e j (omega arith))
+      ap₂ (λ (d : Bool) (b : List ℕ). turnedIf d (dataSize c) b 0 (bitAt r j)) (es (r .row) (r .column + j)) (take-run lay s sheet bits es e j (omega arith))
       ∙ take-next c (r .row) (r .column + j) (r .cell + j) (bitAt r j) l (omega arith) (omega (arith, A .number)) (run-free c F r A l j (omega arith))
       (run-bit c F r A l j (omega arith)) F s
       ∙ ap (λ (t : ℕ). bytesOf 1 (dataSize c) (takenTo c s t)) (next-number j)
 
   -- to the cursor's next stand, of the bytes that the code holds
   module _ (r' : Cursor) (S : Stepped c r r') (k n2 len : ℕ) (ek : k ≡ dataSize c) (en : n2 ≡ c .n2) (el : len ≡ runLength (c .n2) r) where
-    pub put-step : (bits old new : List ℕ) → old ≡ bytesOf (c .n1) (c .n2) (putTo c (λ d. cellOf (dataSize c) bits 0 d) (r .cell))
-        → new ≡ putRun len k bits n2 old r → new ≡ bytesOf (c .n1) (c .n2) (putTo c (λ d. cellOf (dataSize c) bits 0 d) (r' .cell))
-    put-step bits old new eo e =
-        e ∙ rw (en, el) (put-run (λ d. cellOf (dataSize c) bits 0 d) k bits old (λ d. rw ek) eo (runLength (c .n2) r) (omega arith))
-        ∙ put-checks c (λ d. cellOf (dataSize c) bits 0 d) (r .cell + runLength (c .n2) r) (r' .cell) (S .past) (S .checks)
+    pub put-step : (lay : Layout) (bits old new : List ℕ) → old ≡ bytesIn lay (c .n1) (c .n2) (putTo c (λ d. cellOf (dataSize c) bits 0 d) (r .cell))
+        → new ≡ putRun len k bits lay (c .n1) n2 old r → new ≡ bytesIn lay (c .n1) (c .n2) (putTo c (λ d. cellOf (dataSize c) bits 0 d) (r' .cell))
+    put-step lay bits old new eo e =
+        e ∙ rw (en, el) (put-run lay (λ d. cellOf (dataSize c) bits 0 d) k bits old (λ d. rw ek) eo (runLength (c .n2) r) (omega arith))
+        ∙ put-checks lay c (λ d. cellOf (dataSize c) bits 0 d) (r .cell + runLength (c .n2) r) (r' .cell) (S .past) (S .checks)
 
-    pub take-step : (sheet old new : List ℕ) → old ≡ bytesOf 1 (dataSize c) (takenTo c (cellOf (c .n2) sheet) (r .cell))
-        → new ≡ takeRun len n2 sheet k old r → new ≡ bytesOf 1 (dataSize c) (takenTo c (cellOf (c .n2) sheet) (r' .cell))
-    take-step sheet old new eo e =
-        e ∙ rw (en, el, ek) (take-run (cellOf (c .n2) sheet) sheet old (λ i j. refl) eo (runLength (c .n2) r) (omega arith))
-        ∙ take-checks c F (cellOf (c .n2) sheet) (r .cell + runLength (c .n2) r) (r' .cell) (S .past) (S .checks)
+    pub take-step : (lay : Layout) (sheet old new : List ℕ) → old ≡ bytesOf 1 (dataSize c) (takenTo c (cellIn lay (c .n1) (c .n2) sheet) (r .cell))
+        → new ≡ takeRun len lay (c .n1) n2 sheet k old r → new ≡ bytesOf 1 (dataSize c) (takenTo c (cellIn lay (c .n1) (c .n2) sheet) (r' .cell))
+    take-step lay sheet old new eo e =
+        e ∙ rw (en, el, ek) (take-run lay (cellIn lay (c .n1) (c .n2) sheet) sheet old (λ i j. refl) eo (runLength (c .n2) r) (omega arith))
+        ∙ take-checks c F (cellIn lay (c .n1) (c .n2) sheet) (r .cell + runLength (c .n2) r) (r' .cell) (S .past) (S .checks)

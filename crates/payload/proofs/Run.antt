@@ -12,8 +12,10 @@ use Prim.Native.Nat.{ℕ, zero, suc, _+_, _<_}
 use native.Mathlib.Numerals.{add-one}
 use native.Mathlib.Omega.{arith}
 use lib.ListN.{length}
-use Rattle.layout.specs.Cells.{rowBytes, sheetBytes, byteOf, cellOf, turnedIf}
-use Rattle.layout.proofs.Form.{byte-inside}
+use Rattle.layout.specs.Cells.{rowBytes, cellOf, turnedIf}
+use Rattle.layout.specs.Stored.{sizeIn, cellIn, turnedIn}
+use Rattle.layout.specs.declared.stored.Layout.{Layout}
+use Rattle.layout.proofs.Layouts.{in-turned-length}
 use Rattle.layout.proofs.Turned.{turned-if-length}
 use Rattle.boxcode.specs.Code.{Code, Formed}
 use Rattle.boxcode.specs.Check.{dataSize}
@@ -25,44 +27,43 @@ use Rattle.payload.proofs.Size.{place-inside}
 use Rattle.payload.proofs.Before.{ends-most}
 use Rattle.payload.proofs.Stand.{run-column, run-room, run-below}
 
-module _ (k n2 : ℕ) (bits sheet : List ℕ) (r : Cursor) where
+module _ (lay : Layout) (k n1 n2 : ℕ) (bits sheet : List ℕ) (r : Cursor) where
   -- one cell more, of what the code holds: b is the number of the data bit, and dark the cell or the bit
-  pub put-more : (j b : ℕ) (dark : Bool) (old new : List ℕ) → b ≡ bitAt r j → dark ≡ cellOf k bits 0 b → old ≡ putRun j k bits n2 sheet r
-      → new ≡ turnedIf dark n2 old (r .row) (r .column + j) → new ≡ putRun (j + 1) k bits n2 sheet r
+  pub put-more : (j b : ℕ) (dark : Bool) (old new : List ℕ) → b ≡ bitAt r j → dark ≡ cellOf k bits 0 b → old ≡ putRun j k bits lay n1 n2 sheet r
+      → new ≡ turnedIn dark lay n1 n2 old (r .row) (r .column + j) → new ≡ putRun (j + 1) k bits lay n1 n2 sheet r
   unfolding putRun
   put-more j b dark old new eb ed eo e = e ∙ rw (add-one j, eo, ed, eb)
 
-  pub take-more : (j b : ℕ) (dark : Bool) (old new : List ℕ) → b ≡ bitAt r j → dark ≡ cellOf n2 sheet (r .row) (r .column + j)
-      → old ≡ takeRun j n2 sheet k bits r → new ≡ turnedIf dark k old 0 b → new ≡ takeRun (j + 1) n2 sheet k bits r
+  pub take-more : (j b : ℕ) (dark : Bool) (old new : List ℕ) → b ≡ bitAt r j → dark ≡ cellIn lay n1 n2 sheet (r .row) (r .column + j)
+      → old ≡ takeRun j lay n1 n2 sheet k bits r → new ≡ turnedIf dark k old 0 b → new ≡ takeRun (j + 1) lay n1 n2 sheet k bits r
   unfolding takeRun
   take-more j b dark old new eb ed eo e = e ∙ rw (add-one j, eo, ed, eb)
 
-  pub put-length : (j : ℕ) → length (putRun j k bits n2 sheet r) ≡ length sheet
+  pub put-length : (j : ℕ) → length (putRun j k bits lay n1 n2 sheet r) ≡ length sheet
   unfolding putRun
   put-length zero = refl
   put-length (suc j) =
-      turned-if-length (cellOf k bits 0 (bitAt r j)) n2 (putRun j k bits n2 sheet r) (r .row) (r .column + j) ∙ put-length j
+      in-turned-length (cellOf k bits 0 (bitAt r j)) lay n1 n2 (putRun j k bits lay n1 n2 sheet r) (r .row) (r .column + j) ∙ put-length j
 
-  pub take-length : (j : ℕ) → length (takeRun j n2 sheet k bits r) ≡ length bits
+  pub take-length : (j : ℕ) → length (takeRun j lay n1 n2 sheet k bits r) ≡ length bits
   unfolding takeRun
   take-length zero = refl
   take-length (suc j) =
-      turned-if-length (cellOf n2 sheet (r .row) (r .column + j)) k (takeRun j n2 sheet k bits r) 0 (bitAt r j) ∙ take-length j
+      turned-if-length (cellIn lay n1 n2 sheet (r .row) (r .column + j)) k (takeRun j lay n1 n2 sheet k bits r) 0 (bitAt r j) ∙ take-length j
 
-pub reaches : (c : Code) (F : Formed c) (r : Cursor) → At c r → r .row < c .n1 → (k bits n2 sheet len : ℕ) → k ≡ dataSize c
-    → bits ≡ rowBytes (dataSize c) → n2 ≡ c .n2 → sheet ≡ sheetBytes (c .n1) (c .n2) → len ≡ runLength (c .n2) r → Reaches k bits n2 sheet len r
+pub reaches : (lay : Layout) (c : Code) (F : Formed c) (r : Cursor) → At c r → r .row < c .n1 → (k bits n2 sheet len : ℕ) → k ≡ dataSize c
+    → bits ≡ rowBytes (dataSize c) → n2 ≡ c .n2 → sheet ≡ sizeIn lay (c .n1) (c .n2) → len ≡ runLength (c .n2) r → Reaches k bits lay (c .n1) n2 sheet len r
 unfolding dataSize
-reaches c F r A l k bits n2 sheet len ek eb en es el =
+reaches lay c F r A l k bits n2 sheet len ek eb en es el =
     let m = sheet-cells (F .n1-most) (F .n2-most) in
     let d = run-column c F r A l in
     record {
       k-most = omega arith;
-      n2-most = omega (arith, F .n2-most);
+      sizes = record { n1-most = F .n1-most; n2-most = omega (arith, F .n2-most) };
+      sheet-size = rw en es;
       ends-most = let e = ends-most c F (r .row) (A .row-most) in omega (arith, A .ends-is);
+      row-below = l;
       column-most = omega arith;
       room = λ j b. run-room c F r A l j (omega arith);
       bit-in = λ j b. place-inside k (bitAt r j) bits (eb ∙ ap rowBytes (sym ek)) (let w = run-below c F r A l j (omega arith) in omega arith);
-      cell-in = λ j b.
-          let i : byteOf (c .n2) (r .row) (r .column + j) < sheetBytes (c .n1) (c .n2) = byte-inside (c .n2) (r .column + j) (omega arith) (c .n1) (r .row) l in
-          rw (en, es) i;
     }

@@ -1,7 +1,8 @@
 // Data into the cells of a sheet, and out of them.
 ghost use mathlib.Core.Path.{_≡_};
 ghost use lib.ListN.{length};
-ghost use Rattle.layout.specs.Cells.{rowBytes, sheetBytes, cellOf};
+ghost use Rattle.layout.specs.Cells.{rowBytes};
+ghost use Rattle.layout.specs.Stored.{sizeIn, cellIn};
 ghost use Rattle.boxcode.specs.Code.{Formed};
 ghost use Rattle.boxcode.specs.Check.{dataSize};
 ghost use Rattle.plan.specs.Header.{Framed};
@@ -16,41 +17,62 @@ use crate::cursor::step;
 use layout::cells::cell;
 use layout::cells::clear;
 use layout::cells::turn_if;
+use layout::stored::Layout;
+use layout::stored::cell_in;
+use layout::stored::turn_in;
 use plan::header::Header;
 
 // The data bits of a run into its cells, which are light before.
-fn put_run(bits: &[u8], k: usize, sheet: &mut [u8], n2: usize, at: Cursor, len: usize)
-    requires { ⌜ Reaches k (length (now bits)) n2 (length (now sheet)) len at ⌝ }
-    ensures { λ _. ⌜ now (sheet .exit) ≡ putRun len k (now (bits .entry)) n2 (now (sheet .entry)) at ⌝ }
+fn put_run(
+    lay: Layout,
+    bits: &[u8],
+    k: usize,
+    sheet: &mut [u8],
+    n1: usize,
+    n2: usize,
+    at: Cursor,
+    len: usize,
+)
+    requires { ⌜ Reaches k (length (now bits)) lay n1 n2 (length (now sheet)) len at ⌝ }
+    ensures { λ _. ⌜ now (sheet .exit) ≡ putRun len k (now (bits .entry)) lay n1 n2 (now (sheet .entry)) at ⌝ }
 {
     let mut j = 0;
     while j < len {
         let dark = cell(bits, k, 0, bit(at.row, at.place + j, at.ends));
-        turn_if(sheet, n2, at.row, at.column + j, dark);
+        turn_in(sheet, lay, n1, n2, at.row, at.column + j, dark);
         j += 1;
     }
 }
 
 // The cells of a run into their data bits, which are 0 before.
-fn take_run(sheet: &[u8], n2: usize, bits: &mut [u8], k: usize, at: Cursor, len: usize)
-    requires { ⌜ Reaches k (length (now bits)) n2 (length (now sheet)) len at ⌝ }
-    ensures { λ _. ⌜ now (bits .exit) ≡ takeRun len n2 (now (sheet .entry)) k (now (bits .entry)) at ⌝ }
+fn take_run(
+    lay: Layout,
+    sheet: &[u8],
+    n1: usize,
+    n2: usize,
+    bits: &mut [u8],
+    k: usize,
+    at: Cursor,
+    len: usize,
+)
+    requires { ⌜ Reaches k (length (now bits)) lay n1 n2 (length (now sheet)) len at ⌝ }
+    ensures { λ _. ⌜ now (bits .exit) ≡ takeRun len lay n1 n2 (now (sheet .entry)) k (now (bits .entry)) at ⌝ }
 {
     let mut j = 0;
     while j < len {
-        let dark = cell(sheet, n2, at.row, at.column + j);
+        let dark = cell_in(sheet, lay, n1, n2, at.row, at.column + j);
         turn_if(bits, k, 0, bit(at.row, at.place + j, at.ends), dark);
         j += 1;
     }
 }
 
 // The sheet that holds the data in its data cells, and 0 in its check cells.
-pub fn put(plan: &[u8], h: Header, bits: &[u8], sheet: &mut [u8])
+pub fn put(lay: Layout, plan: &[u8], h: Header, bits: &[u8], sheet: &mut [u8])
     requires { ⌜ Framed (now plan) h ⌝ }
     requires { ⌜ Formed (codeWith (now plan) h) ⌝ }
     requires { ⌜ length (now bits) ≡ rowBytes (dataSize (codeWith (now plan) h)) ⌝ }
-    requires { ⌜ length (now sheet) ≡ sheetBytes (h .n1) (h .n2) ⌝ }
-    ensures { λ _. ⌜ now (sheet .exit) ≡ filledBytes (codeWith (now (plan .entry)) h) (now (bits .entry)) ⌝ }
+    requires { ⌜ length (now sheet) ≡ sizeIn lay (h .n1) (h .n2) ⌝ }
+    ensures { λ _. ⌜ now (sheet .exit) ≡ filledBytes lay (codeWith (now (plan .entry)) h) (now (bits .entry)) ⌝ }
 {
     let k = h.n1 * h.n2 - (h.rv + h.rh);
     let n2 = h.n2;
@@ -58,18 +80,18 @@ pub fn put(plan: &[u8], h: Header, bits: &[u8], sheet: &mut [u8])
     let mut at = start(plan, h);
     while at.row < h.n1 {
         let len = run(at, n2);
-        put_run(bits, k, sheet, n2, at, len);
+        put_run(lay, bits, k, sheet, h.n1, n2, at, len);
         at = step(plan, h, at, len);
     }
 }
 
 // The data that the cells of a sheet hold.
-pub fn take(plan: &[u8], h: Header, sheet: &[u8], bits: &mut [u8])
+pub fn take(lay: Layout, plan: &[u8], h: Header, sheet: &[u8], bits: &mut [u8])
     requires { ⌜ Framed (now plan) h ⌝ }
     requires { ⌜ Formed (codeWith (now plan) h) ⌝ }
     requires { ⌜ length (now bits) ≡ rowBytes (dataSize (codeWith (now plan) h)) ⌝ }
-    requires { ⌜ length (now sheet) ≡ sheetBytes (h .n1) (h .n2) ⌝ }
-    ensures { λ _. ⌜ now (bits .exit) ≡ packedData (codeWith (now (plan .entry)) h) (cellOf (h .n2) (now (sheet .entry))) ⌝ }
+    requires { ⌜ length (now sheet) ≡ sizeIn lay (h .n1) (h .n2) ⌝ }
+    ensures { λ _. ⌜ now (bits .exit) ≡ packedData (codeWith (now (plan .entry)) h) (cellIn lay (h .n1) (h .n2) (now (sheet .entry))) ⌝ }
 {
     let k = h.n1 * h.n2 - (h.rv + h.rh);
     let n2 = h.n2;
@@ -77,7 +99,7 @@ pub fn take(plan: &[u8], h: Header, sheet: &[u8], bits: &mut [u8])
     let mut at = start(plan, h);
     while at.row < h.n1 {
         let len = run(at, n2);
-        take_run(sheet, n2, bits, k, at, len);
+        take_run(lay, sheet, h.n1, n2, bits, k, at, len);
         at = step(plan, h, at, len);
     }
 }

@@ -15,6 +15,7 @@ use Rattle.finite.proofs.Truth.{not-true, xor-none, xor-dark, xor-comm, xor-ass
 use Rattle.layout.specs.Cells.{cellOf}
 use Rattle.layout.proofs.Form.{same-bytes}
 use Rattle.layout.proofs.Turned.{turned-form}
+use Rattle.layout.specs.declared.stored.Layout.the-variants.{ByRow}
 use Rattle.boxcode.specs.Code.{Code, Formed, cellNumber}
 use Rattle.boxcode.specs.Check.{checkAt, dataOrder, dataSize, rank, dataCell, belongs}
 use Rattle.boxcode.proofs.Check.{number-on, rank-below, rank-data, data-free, data-rank}
@@ -32,7 +33,7 @@ use Rattle.alter.specs.Alter.{positionVerdict, belongVerdict, alterChecks, alte
 use Rattle.alter.proofs.Passing as passing
 use Rattle.alter.proofs.Passing.{alters-pass, alter-done, right-position}
 use Rattle.alter.proofs.Turned.{turned-bit}
-use Rattle.promise.specs.Promise.{Passes, DataFor, SheetFor, cellsOf, BelongsTo, dataIn, Written}
+use Rattle.promise.specs.Promise.{Passes, DataFor, SheetFor, cellsOf, BelongsTo, heldIn, dataIn, Written}
 use Rattle.promise.specs.Alter as promise
 use Rattle.promise.specs.Alter.{PositionIn, PositionsIn, HoldsBit, IsCheck, turnedAt, alterEach, turnedEach, times, Alteration}
 use Rattle.promise.proofs.Corrupted.{data-form, data-bit}
@@ -41,7 +42,7 @@ use Rattle.promise.proofs.Promise.{written-once}
 -- ---- one alteration
 
 pub afresh : promise.Afresh
-unfolding alteredBytes dataIn
+unfolding alteredBytes heldIn
 afresh plan sheet d P S B l =
     let passed = alters-pass plan sheet d (record { right = record { accepted = accepted-plan plan P; form = S }; below = l; belongs = B }) in
     alter-done plan sheet d (ap (λ (v : Verdict). v .number) passed) ∙ ap (λ (v : Verdict). altered v (alteredBytes plan sheet d)) passed
@@ -52,7 +53,7 @@ turned-data-form plan bits d f l = turned-form 1 (dataSize (codeOf plan)) bits f
 
 pub written-altered : promise.WrittenAltered
 written-altered plan bits d P f l =
-    let W = written-once plan P bits f in
+    let W = written-once ByRow plan P bits f in
     afresh plan (writtenBytes plan bits) d P (W .form) (W .belongs) l
     ∙ ap (λ (b : List ℕ). altered accepted (writtenBytes plan (turnedAt plan d b))) (W .holds)
 
@@ -66,8 +67,8 @@ module _ (plan sheet : List ℕ) (d : ℕ) (P : Passes plan) (l : PositionIn pla
   abbrev y : List ℕ
   y = turnedAt plan d (dataIn plan sheet)
 
-  W : Written plan (turnedAt plan d (dataIn plan sheet))
-  W = written-once plan P y (turned-data-form plan (dataIn plan sheet) d (data-form plan sheet) l)
+  W : Written ByRow plan (turnedAt plan d (dataIn plan sheet))
+  W = written-once ByRow plan P y (turned-data-form plan (dataIn plan sheet) d (data-form ByRow plan sheet) l)
 
   -- a cell that is no check cell, by its data bit
   free-cell : (i j : ℕ) → i < c .n1 → j < c .n2 → checkAt c (cellNumber c i j) ≡ false
@@ -76,10 +77,10 @@ module _ (plan sheet : List ℕ) (d : ℕ) (P : Passes plan) (l : PositionIn pla
       let e = rank c (dataOrder c (cellNumber c i j)) in
       let le : e < dataSize c = rank-below c F (cellNumber c i j) (number-on c i j lj li) f in
       cell-data c F (cellsOf plan (writtenBytes plan y)) i j li lj f
-      ∙ sym (data-bit plan (writtenBytes plan y) e le)
+      ∙ sym (data-bit ByRow plan (writtenBytes plan y) e le)
       ∙ ap (λ (b : List ℕ). dataBits (dataSize c) b e) (W .holds)
-      ∙ turned-bit (dataSize c) (dataIn plan sheet) (data-form plan sheet) d e l le
-      ∙ ap (λ (b : Bool). xor b (eqb d e)) (data-bit plan sheet e le ∙ sym (cell-data c F (cellsOf plan sheet) i j li lj f))
+      ∙ turned-bit (dataSize c) (dataIn plan sheet) (data-form ByRow plan sheet) d e l le
+      ∙ ap (λ (b : Bool). xor b (eqb d e)) (data-bit ByRow plan sheet e le ∙ sym (cell-data c F (cellsOf plan sheet) i j li lj f))
 
   there : (i j : ℕ) → i < c .n1 → j < c .n2 → HoldsBit plan d i j → cellsOf plan (writtenBytes plan y) i j ≡ not (cellsOf plan sheet i j)
   there i j li lj h =
@@ -118,7 +119,7 @@ each-next plan sheet d ds after e = rw e
 pub any-run : promise.AnyRun
 unfolding turnedEach
 any-run plan sheet [] P S B ps =
-    unfold alterEach in ap (altered accepted) (written-once plan P (dataIn plan sheet) (data-form plan sheet) .only sheet S B refl)
+    unfold alterEach in ap (altered accepted) (written-once ByRow plan P (dataIn plan sheet) (data-form ByRow plan sheet) .only sheet S B refl)
 any-run plan sheet (d ∷ ds) P S B ps =
     let l = first-in plan d ds ps in
     let y = turnedAt plan d (dataIn plan sheet) in
@@ -164,7 +165,7 @@ same-runs plan sheet ds ds' P S B ps ps' same =
     x = dataIn plan sheet
 
     f : DataFor plan (dataIn plan sheet)
-    f = data-form plan sheet
+    f = data-form ByRow plan sheet
 
     -- data is one row
     bit : (i e : ℕ) → i < 1 → e < k → cellOf k (turnedEach plan ds x) i e ≡ cellOf k (turnedEach plan ds' x) i e

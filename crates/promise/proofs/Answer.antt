@@ -9,8 +9,8 @@ use native.Mathlib.Omega.{arith}
 use Rattle.answer.proofs.Fields.{packed-carries, part-carries}
 use Rattle.accept.specs.Verdict.{planVerdict}
 use Rattle.maker.specs.Make.{make}
-use Rattle.writer.specs.Write.{write}
-use Rattle.reader.specs.Read.{readOutcome}
+use Rattle.writer.specs.Write.{writeIn}
+use Rattle.reader.specs.Read.{readIn}
 use Rattle.runsums.specs.RunSums.{sumRun}
 use Rattle.alter.specs.Alter.{alter}
 use Rattle.scans.specs.ReadTwo.{readTwo}
@@ -31,13 +31,13 @@ make-carries g plan = packed-carries (verdictFields (make g plan .verdict)) (mak
 
 pub write-carries : promise.WriteCarries
 unfolding writeCall
-write-carries plan bits sheet = packed-carries (verdictFields (write plan bits sheet .verdict)) (write-range plan bits sheet)
+write-carries lay plan bits sheet = packed-carries (verdictFields (writeIn lay plan bits sheet .verdict)) (write-range lay plan bits sheet)
 
 pub read-carries : promise.ReadCarries
 unfolding readCall
-read-carries plan sheet bits =
-    let o = readOutcome plan sheet bits in
-    packed-carries (reportFields (o .verdict) (o .report)) (read-range plan sheet bits)
+read-carries lay plan sheet bits =
+    let o = readIn lay plan sheet bits in
+    packed-carries (reportFields (o .verdict) (o .report)) (read-range lay plan sheet bits)
 
 pub sums-carries : promise.SumsCarries
 unfolding sumsCall

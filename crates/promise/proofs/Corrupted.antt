@@ -15,61 +15,65 @@ use Prim.Native.Nat.{ℕ, _<_}
 use native.Mathlib.Omega.{arith}
 use Rattle.finite.proofs.Truth.{xor-none, xor-back}
 use Rattle.layout.specs.Cells.{cellOf}
-use Rattle.layout.proofs.Form.{same-bytes, bytes-form, bytes-cell, bytes-equal, bytes-back}
+use Rattle.layout.specs.declared.stored.Layout.{Layout}
+use Rattle.layout.proofs.Form.{bytes-form, bytes-cell, bytes-equal, bytes-back}
+use Rattle.layout.proofs.Layouts.{laws}
 use Rattle.boxcode.specs.Syndrome.{Cells, flip}
 use Rattle.boxcode.specs.Burst.{Fits}
 use Rattle.boxcode.specs.Check.{dataSize, dataOf}
 use Rattle.boxcode.proofs.Syndrome.{belongs-cells}
 use Rattle.plan.specs.Bytes.{codeOf}
 use Rattle.writer.specs.Write.{dataBits}
-use Rattle.promise.specs.Promise.{DataFor, SheetFor, FitsOn, cellsOf, dataIn, corrupted, empty}
+use Rattle.promise.specs.Promise.{DataFor, SheetIn, FitsIn, cellsIn, heldIn, corruptedIn, empty}
 
-module _ (plan sheet : List ℕ) where
-  pub corrupted-form : (e : Cells) → SheetFor plan (corrupted plan sheet e)
-  unfolding corrupted
-  corrupted-form e = bytes-form (codeOf plan .n1) (codeOf plan .n2) (flip (cellsOf plan sheet) e)
+module _ (lay : Layout) (plan sheet : List ℕ) where
+  pub corrupted-form : (e : Cells) → SheetIn lay plan (corruptedIn lay plan sheet e)
+  unfolding corruptedIn
+  corrupted-form e = laws lay (codeOf plan .n1) (codeOf plan .n2) .form (flip (cellsIn lay plan sheet) e)
 
   pub corrupted-cell : (e : Cells) (i j : ℕ) → i < codeOf plan .n1 → j < codeOf plan .n2
-      → cellsOf plan (corrupted plan sheet e) i j ≡ xor (cellsOf plan sheet i j) (e i j)
-  unfolding corrupted
-  corrupted-cell e = bytes-cell (codeOf plan .n1) (codeOf plan .n2) (flip (cellsOf plan sheet) e)
+      → cellsIn lay plan (corruptedIn lay plan sheet e) i j ≡ xor (cellsIn lay plan sheet i j) (e i j)
+  unfolding corruptedIn
+  corrupted-cell e = laws lay (codeOf plan .n1) (codeOf plan .n2) .cell (flip (cellsIn lay plan sheet) e)
 
-  pub corrupted-none : SheetFor plan sheet → corrupted plan sheet empty ≡ sheet
+  pub corrupted-none : SheetIn lay plan sheet → corruptedIn lay plan sheet empty ≡ sheet
   corrupted-none f =
-      same-bytes (codeOf plan .n1) (codeOf plan .n2) (corrupted plan sheet empty) sheet (corrupted-form empty) f
-      (λ i j li lj. corrupted-cell empty i j li lj ∙ xor-none (cellsOf plan sheet i j))
+      laws lay (codeOf plan .n1) (codeOf plan .n2) .same (corruptedIn lay plan sheet empty) sheet (corrupted-form empty) f
+      (λ i j li lj. corrupted-cell empty i j li lj ∙ xor-none (cellsIn lay plan sheet i j))
 
-  pub fits-cells : (e : Cells) → FitsOn plan sheet e → Fits (codeOf plan) (cellsOf plan sheet) e
-  fits-cells e f = belongs-cells (codeOf plan) (cellsOf plan (corrupted plan sheet e)) (flip (cellsOf plan sheet) e) (corrupted-cell e) f
+  pub fits-cells : (e : Cells) → FitsIn lay plan sheet e → Fits (codeOf plan) (cellsIn lay plan sheet) e
+  fits-cells e f = belongs-cells (codeOf plan) (cellsIn lay plan (corruptedIn lay plan sheet e)) (flip (cellsIn lay plan sheet) e) (corrupted-cell e) f
 
-  pub cells-fit : (e : Cells) → Fits (codeOf plan) (cellsOf plan sheet) e → FitsOn plan sheet e
+  pub cells-fit : (e : Cells) → Fits (codeOf plan) (cellsIn lay plan sheet) e → FitsIn lay plan sheet e
   cells-fit e f =
-      belongs-cells (codeOf plan) (flip (cellsOf plan sheet) e) (cellsOf plan (corrupted plan sheet e)) (λ i j li lj. sym (corrupted-cell e i j li lj)) f
+      belongs-cells (codeOf plan) (flip (cellsIn lay plan sheet) e) (cellsIn lay plan (corruptedIn lay plan sheet e))
+      (λ i j li lj. sym (corrupted-cell e i j li lj)) f
 
-pub corrupted-back : (plan sheet : List ℕ) (e : Cells) → SheetFor plan sheet → corrupted plan (corrupted plan sheet e) e ≡ sheet
-corrupted-back plan sheet e f =
-    same-bytes (codeOf plan .n1) (codeOf plan .n2) (corrupted plan (corrupted plan sheet e) e) sheet (corrupted-form plan (corrupted plan sheet e) e) f
+pub corrupted-back : (lay : Layout) (plan sheet : List ℕ) (e : Cells) → SheetIn lay plan sheet → corruptedIn lay plan (corruptedIn lay plan sheet e) e ≡ sheet
+corrupted-back lay plan sheet e f =
+    laws lay (codeOf plan .n1) (codeOf plan .n2) .same (corruptedIn lay plan (corruptedIn lay plan sheet e) e) sheet
+    (corrupted-form lay plan (corruptedIn lay plan sheet e) e) f
     (λ i j li lj.
-    corrupted-cell plan (corrupted plan sheet e) e i j li lj ∙ ap (λ (b : Bool). xor b (e i j)) (corrupted-cell plan sheet e i j li lj)
-    ∙ xor-back (cellsOf plan sheet i j) (e i j))
+    corrupted-cell lay plan (corruptedIn lay plan sheet e) e i j li lj ∙ ap (λ (b : Bool). xor b (e i j)) (corrupted-cell lay plan sheet e i j li lj)
+    ∙ xor-back (cellsIn lay plan sheet i j) (e i j))
 
 -- ---- data: one row of k cells
 
-pub data-form : (plan sheet : List ℕ) → DataFor plan (dataIn plan sheet)
-unfolding dataIn
-data-form plan sheet = bytes-form 1 (dataSize (codeOf plan)) (λ i d. dataOf (codeOf plan) (cellsOf plan sheet) d)
+pub data-form : (lay : Layout) (plan sheet : List ℕ) → DataFor plan (heldIn lay plan sheet)
+unfolding heldIn
+data-form lay plan sheet = bytes-form 1 (dataSize (codeOf plan)) (λ i d. dataOf (codeOf plan) (cellsIn lay plan sheet) d)
 
-pub data-bit : (plan sheet : List ℕ) (d : ℕ) → d < dataSize (codeOf plan)
-    → dataBits (dataSize (codeOf plan)) (dataIn plan sheet) d ≡ dataOf (codeOf plan) (cellsOf plan sheet) d
-unfolding dataIn
-data-bit plan sheet d l = bytes-cell 1 (dataSize (codeOf plan)) (λ i d. dataOf (codeOf plan) (cellsOf plan sheet) d) 0 d (omega arith) l
+pub data-bit : (lay : Layout) (plan sheet : List ℕ) (d : ℕ) → d < dataSize (codeOf plan)
+    → dataBits (dataSize (codeOf plan)) (heldIn lay plan sheet) d ≡ dataOf (codeOf plan) (cellsIn lay plan sheet) d
+unfolding heldIn
+data-bit lay plan sheet d l = bytes-cell 1 (dataSize (codeOf plan)) (λ i d. dataOf (codeOf plan) (cellsIn lay plan sheet) d) 0 d (omega arith) l
 
-pub data-held : (plan sheet bits : List ℕ) → DataFor plan bits
-    → ((d : ℕ) → d < dataSize (codeOf plan) → dataOf (codeOf plan) (cellsOf plan sheet) d ≡ dataBits (dataSize (codeOf plan)) bits d)
-    → dataIn plan sheet ≡ bits
-unfolding dataIn
-data-held plan sheet bits right h =
+pub data-held : (lay : Layout) (plan sheet bits : List ℕ) → DataFor plan bits
+    → ((d : ℕ) → d < dataSize (codeOf plan) → dataOf (codeOf plan) (cellsIn lay plan sheet) d ≡ dataBits (dataSize (codeOf plan)) bits d)
+    → heldIn lay plan sheet ≡ bits
+unfolding heldIn
+data-held lay plan sheet bits right h =
     let k = dataSize (codeOf plan) in
-    bytes-equal 1 k (λ i d. dataOf (codeOf plan) (cellsOf plan sheet) d) (cellOf k bits)
+    bytes-equal 1 k (λ i d. dataOf (codeOf plan) (cellsIn lay plan sheet) d) (cellOf k bits)
     (λ i d li ld. h d ld ∙ ap (λ (z : ℕ). cellOf k bits z d) (let e : 0 ≡ i = omega arith in e))
     ∙ bytes-back 1 k bits right

@@ -10,6 +10,7 @@ use native.Mathlib.Decide.{ℕ-discrete}
 use native.Mathlib.Omega.{arith}
 use lib.ListN.{take}
 use Rattle.layout.proofs.Joined.{joined-equal}
+use Rattle.layout.specs.declared.stored.Layout.the-variants.{ByRow}
 use Rattle.stackform.specs.Stack.{sheetCount, roomOf, headerEnd}
 use Rattle.stackform.proofs.Header.{same-count, same-room}
 use Rattle.boxcode.specs.Syndrome.{Cells}
@@ -126,13 +127,13 @@ numbers-tell plan l e i li =
     let sheet = sheetAt (codeOf plan) (l .stack) i in
     let bits = bitsAt (codeOf plan) (l .bits) i in
     rw (as-alone plan l e i li .numbers)
-    (told-small (readOutcome plan sheet bits) (read-fits plan sheet bits) (report-fits plan sheet bits)
+    (told-small (readOutcome plan sheet bits) (read-fits ByRow plan sheet bits) (report-fits ByRow plan sheet bits)
     (alone-told plan (l .stack) (l .numbers) (l .bits) (fits plan l e) i li))
 
 pub refused-keeps : promise.RefusedKeeps
 refused-keeps plan l e i li h =
     let S = as-alone plan l e i li in
-    let K = read-keeps plan (sheetAt (codeOf plan) (l .stack) i) (bitsAt (codeOf plan) (l .bits) i) h in
+    let K = read-keeps ByRow plan (sheetAt (codeOf plan) (l .stack) i) (bitsAt (codeOf plan) (l .bits) i) h in
     (S .sheet ∙ K .0, S .bits ∙ K .1)
 
 -- ---- two rooms
@@ -188,7 +189,7 @@ back-alone : (plan : List ℕ) (l : Lent) → toldOf plan l ≡ 0 → (i : ℕ) 
 back-alone plan l z i li bits e right B s =
     let place = bitsAt (codeOf plan) (l .bits) i in
     ap (λ (x : List ℕ). readOutcome plan x place) s
-    ∙ read-back plan (passes plan l z) bits place e right B
+    ∙ read-back ByRow plan (passes plan l z) bits place e right B
     (alone-lengths plan (l .stack) (l .numbers) (l .bits) (fits plan l z) i li .bits-size)
 
 pub stack-back : promise.StackBack

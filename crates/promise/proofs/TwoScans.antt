@@ -13,6 +13,7 @@ use Rattle.finite.proofs.Truth.{Truth, is-true, is-false, true-or-false, clash,
 use Rattle.layout.specs.Differ.{agree}
 use Rattle.layout.proofs.Form.{bytes-equal}
 use Rattle.layout.proofs.Agreement.{agree-equal, equal-agree}
+use Rattle.layout.specs.declared.stored.Layout.the-variants.{ByRow}
 use Rattle.boxcode.specs.Syndrome.{Cells}
 use Rattle.boxcode.specs.Check.{dataSize, dataOf}
 use Rattle.boxcode.specs.Reader.{reportOf, noReport}
@@ -26,7 +27,7 @@ use Rattle.writer.specs.Write.{writtenBytes}
 use Rattle.reader.specs.Read.{Outcome, refused, readOutcome}
 use Rattle.scans.specs.ReadTwo.{TwoRead, twoRead, decide, readTwo}
 use Rattle.scans.proofs.Decided.{two-refuses, decide-none, decide-first, decide-second, decide-agree, decide-differ}
-use Rattle.promise.specs.Promise.{SheetFor, BufferFor, BurstOn, NoneFits, SomeFits, Written, cellsOf, dataIn, corrupted, readAs}
+use Rattle.promise.specs.Promise.{SheetFor, BufferFor, BurstOn, NoneFits, SomeFits, Written, cellsOf, heldIn, dataIn, corrupted, readAs}
 use Rattle.promise.specs.TwoScans as promise
 use Rattle.promise.specs.TwoScans.{told, MendsTo}
 use Rattle.promise.proofs.Corrupted.{corrupted-form, corrupted-back, data-form}
@@ -36,7 +37,7 @@ use Rattle.promise.proofs.Promise.{written-once}
 -- the sheet written from the data is the only one that belongs and holds it
 pub same-as-data : promise.SameAsData
 same-as-data plan ok sheet sheet' f f' b b' =
-    let W = written-once plan ok (dataIn plan sheet) (data-form plan sheet) in
+    let W = written-once ByRow plan ok (dataIn plan sheet) (data-form ByRow plan sheet) in
     (λ e. W .only sheet f b refl ∙ sym (W .only sheet' f' b' (sym e)), ap (dataIn plan))
 
 pub two-refused : promise.TwoRefused
@@ -46,7 +47,7 @@ two-refused plan first second old h = sym (two-refuses plan first second old h)
 
 -- data that differ are told apart byte for byte
 agree-data : (plan s s' : List ℕ) → agree (dataIn plan s) (dataIn plan s') ≡ true → dataIn plan s ≡ dataIn plan s'
-agree-data plan s s' = agree-equal (dataIn plan s) (dataIn plan s') (data-form plan s .size ∙ sym (data-form plan s' .size))
+agree-data plan s s' = agree-equal (dataIn plan s) (dataIn plan s') (data-form ByRow plan s .size ∙ sym (data-form ByRow plan s' .size))
 
 module _ (plan : List ℕ) (A : Accepted plan) (first second old : List ℕ) (f : SheetFor plan first) (g : SheetFor plan second) (l : BufferFor plan old) where
   decided : readTwo plan first second old ≡ decide (readOutcome plan first old) (readOutcome plan second old) old
@@ -62,11 +63,11 @@ module _ (plan : List ℕ) (A : Accepted plan) (first second old : List ℕ) (f 
   mends : (scan : List ℕ) → SheetFor plan scan → (s : List ℕ) (M : MendsTo plan scan s)
       → readOutcome plan scan old ≡ readAs (reportOf (codeOf plan) (M .cells)) s (dataIn plan s)
   mends scan h s M =
-      taken-as plan A scan old h l (M .cells) (M .burst) (M .fits)
+      taken-as ByRow plan A scan old h l (M .cells) (M .burst) (M .fits)
       ∙ ap (λ (x : List ℕ). readAs (reportOf (codeOf plan) (M .cells)) x (dataIn plan x)) (M .gives)
 
   fails : (scan : List ℕ) → SheetFor plan scan → NoneFits plan scan → readOutcome plan scan old ≡ refused (refusal 14 0 0) scan old
-  fails scan h n = refused-as plan A scan old h l n
+  fails scan h n = refused-as ByRow plan A scan old h l n
 
   when-agree : (s s' : List ℕ) → MendsTo plan first s → MendsTo plan second s' → dataIn plan s ≡ dataIn plan s'
       → readTwo plan first second old ≡ twoRead accepted (dataIn plan s)
@@ -143,8 +144,8 @@ module _ (plan : List ℕ) (A : Accepted plan) (first second old : List ℕ) (f 
 pub two-answers : promise.TwoAnswers
 two-answers plan ok first second old f g l =
     let A = accepted-plan plan ok in
-    let n = none-or-some plan A first old f l in
-    let n' = none-or-some plan A second old g l in
+    let n = none-or-some ByRow plan A first old f l in
+    let n' = none-or-some ByRow plan A second old g l in
     record {
       agree = when-agree plan A first second old f g l;
       first-alone = when-first plan A first second old f g l;
@@ -160,25 +161,26 @@ two-answers plan ok first second old f g l =
 -- each burst fits the scan that it is on, and mends it to the written sheet
 pub two-back : promise.TwoBack
 two-back plan ok bits old e e' right B B' l =
-    when-agree plan (accepted-plan plan ok) (corrupted plan w e) (corrupted plan w e') old (corrupted-form plan w e) (corrupted-form plan w e') l w w
+    when-agree plan (accepted-plan plan ok) (corrupted plan w e) (corrupted plan w e') old
+    (corrupted-form ByRow plan w e) (corrupted-form ByRow plan w e') l w w
     (mends-back e B) (mends-back e' B') refl
     ∙ ap (twoRead accepted) (W .holds)
   where
     w : List ℕ
     w = writtenBytes plan bits
 
-    W : Written plan bits
-    W = written-once plan ok bits right
+    W : Written ByRow plan bits
+    W = written-once ByRow plan ok bits right
 
     mends-back : (e : Cells) → BurstOn plan e → MendsTo plan (corrupted plan w e) w
     mends-back e B =
-        let back : corrupted plan (corrupted plan w e) e ≡ w = corrupted-back plan w e (W .form) in
+        let back : corrupted plan (corrupted plan w e) e ≡ w = corrupted-back ByRow plan w e (W .form) in
         record { cells = e; burst = B; fits = rw back (W .belongs); gives = back }
 
 -- ---- no data
 
 pub no-data-agrees : promise.NoDataAgrees
-unfolding dataIn
+unfolding heldIn
 no-data-agrees plan ok first second old f g l z e =
     let w = two-answers plan ok first second old f g l .only-differ e in
     w .4

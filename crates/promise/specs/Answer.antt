@@ -3,8 +3,8 @@
 --
 --   PlanCarries    the test of a plan: the number and the places of its verdict, and five zeros
 --   MakeCarries    making a plan: likewise
---   WriteCarries   writing: likewise
---   ReadCarries    reading: the number, the places and the reader's five numbers
+--   WriteCarries   writing, in either layout: likewise
+--   ReadCarries    reading, in either layout: the number, the places and the reader's five numbers
 --   SumsCarries    asking for the sums of a run: the number and the places of its verdict, and five zeros
 --   AlterCarries   altering: likewise
 --   TwoCarries     reading two scans: likewise
@@ -12,12 +12,13 @@
 --   DifferenceCarries   asking where two scans first differ: the byte of the second scan where the part starts, and the part's length
 use Prim.Native.Nat.{ℕ, _-_}
 use mathlib.Core.List.{List}
+use Rattle.layout.specs.declared.stored.Layout.{Layout}
 use Rattle.answer.specs.Answer.{Carries, PartCarries}
 use Rattle.accept.specs.Verdict.{planVerdict}
 use Rattle.maker.specs.declared.parameters.Parameters.{Parameters}
 use Rattle.maker.specs.Make.{make}
-use Rattle.writer.specs.Write.{write}
-use Rattle.reader.specs.Read.{readOutcome}
+use Rattle.writer.specs.Write.{writeIn}
+use Rattle.reader.specs.Read.{readIn}
 use Rattle.runsums.specs.RunSums.{sumRun}
 use Rattle.alter.specs.Alter.{alter}
 use Rattle.scans.specs.ReadTwo.{readTwo}
@@ -33,12 +34,12 @@ abbrev pub MakeCarries : Type 0
 MakeCarries = (g : Parameters) (plan : List ℕ) → Carries (makeCall g plan .answer) (verdictFields (make g plan .verdict))
 
 abbrev pub WriteCarries : Type 0
-WriteCarries = (plan bits sheet : List ℕ)
-    → Carries (writeCall plan bits sheet .answer) (verdictFields (write plan bits sheet .verdict))
+WriteCarries = (lay : Layout) (plan bits sheet : List ℕ)
+    → Carries (writeCall lay plan bits sheet .answer) (verdictFields (writeIn lay plan bits sheet .verdict))
 
 abbrev pub ReadCarries : Type 0
-ReadCarries = (plan sheet bits : List ℕ)
-    → Carries (readCall plan sheet bits .answer) (reportFields (readOutcome plan sheet bits .verdict) (readOutcome plan sheet bits .report))
+ReadCarries = (lay : Layout) (plan sheet bits : List ℕ)
+    → let o = readIn lay plan sheet bits in Carries (readCall lay plan sheet bits .answer) (reportFields (o .verdict) (o .report))
 
 abbrev pub SumsCarries : Type 0
 SumsCarries = (plan sheet : List ℕ) (first past : ℕ) (sums : List ℕ)

@@ -7,7 +7,8 @@ use mathlib.Core.Path.{_≡_}
 use mathlib.Core.Bool.{true}
 use mathlib.Core.List.{List}
 use Prim.Native.Nat.{ℕ}
-use Rattle.layout.specs.Cells.{cellOf}
+use Rattle.layout.specs.Stored.{cellIn}
+use Rattle.layout.specs.declared.stored.Layout.{Layout}
 use Rattle.boxcode.proofs.Reader.{mendable}
 use Rattle.plan.specs.Bytes.{codeOf}
 use Rattle.plan.proofs.Sequence.{else-zero}
@@ -16,10 +17,10 @@ use Rattle.buffers.proofs.Passing.{MayRead, read-zero}
 use Rattle.mend.proofs.First.{first-has}
 use Rattle.reader.specs.Read.{burstIn, readVerdict}
 
-module _ (plan sheet bits : List ℕ) where
-  pub zero-reads : readVerdict plan sheet bits .number ≡ 0
-      → MayRead plan sheet bits × (mendable (codeOf plan) (cellOf (codeOf plan .n2) sheet) ≡ true)
+module _ (lay : Layout) (plan sheet bits : List ℕ) where
+  pub zero-reads : readVerdict lay plan sheet bits .number ≡ 0
+      → MayRead lay plan sheet bits × (mendable (codeOf plan) (cellIn lay (codeOf plan .n1) (codeOf plan .n2) sheet) ≡ true)
   unfolding readVerdict burstIn mendable
   zero-reads e =
-      let z = else-zero (readChecks plan sheet bits) _ e in
-      (read-zero plan sheet bits (z .0), first-has (codeOf plan) _ _ (z .1))
+      let z = else-zero (readChecks lay plan sheet bits) _ e in
+      (read-zero lay plan sheet bits (z .0), first-has (codeOf plan) _ _ (z .1))

@@ -12,8 +12,11 @@ use mathlib.Core.List.{List}
 use Prim.Native.Nat.{ℕ}
 use lib.Dec.{eqb, ltb}
 use lib.ListN.{length}
-use Rattle.layout.specs.Cells.{rowBytes, sheetBytes, firstUnused}
+use Rattle.layout.specs.Cells.{rowBytes}
+use Rattle.layout.specs.Stored.{sizeIn, firstUnusedIn}
+use Rattle.layout.specs.declared.stored.Layout.{Layout}
 use Rattle.layout.proofs.Form.{bytes-form, row-sheet}
+use Rattle.layout.proofs.Layouts.{bytes-size}
 use Rattle.boxcode.specs.Check.{dataSize}
 use Rattle.plan.specs.declared.verdict.Verdict.{Verdict}
 use Rattle.plan.specs.Verdict.{refusal, verdictIf, _orElse_}
@@ -23,24 +26,24 @@ use Rattle.buffers.proofs.Passing.{Lengths, lengths-pass}
 use Rattle.mend.specs.declared.found.Found.{Found}
 use Rattle.mend.specs.declared.found.Found.the-variants.{Burst, Nothing}
 use Rattle.mend.specs.Found.{foundVerdict}
-use Rattle.reader.specs.Read.{burstIn, readVerdict, sheetRead, bitsRead, refused, taken, readOutcome}
+use Rattle.reader.specs.Read.{burstIn, readVerdict, sheetRead, bitsRead, refused, taken, readIn}
 
-module _ (plan sheet bits : List ℕ) where
-  pub sheet-length : length sheet ≡ sheetBytes (codeOf plan .n1) (codeOf plan .n2)
-      → length (readOutcome plan sheet bits .sheet) ≡ sheetBytes (codeOf plan .n1) (codeOf plan .n2)
-  unfolding readOutcome sheetRead
-  sheet-length e = go (eqb (readVerdict plan sheet bits .number) 0)
+module _ (lay : Layout) (plan sheet bits : List ℕ) where
+  pub sheet-length : length sheet ≡ sizeIn lay (codeOf plan .n1) (codeOf plan .n2)
+      → length (readIn lay plan sheet bits .sheet) ≡ sizeIn lay (codeOf plan .n1) (codeOf plan .n2)
+  unfolding readIn sheetRead
+  sheet-length e = go (eqb (readVerdict lay plan sheet bits .number) 0)
     where
-      go : (b : Bool) → length (cond b (taken (codeOf plan) sheet) (refused (readVerdict plan sheet bits) sheet bits) .sheet)
-          ≡ sheetBytes (codeOf plan .n1) (codeOf plan .n2)
-      go true = bytes-form (codeOf plan .n1) (codeOf plan .n2) _ .size
+      go : (b : Bool) → length (cond b (taken lay (codeOf plan) sheet) (refused (readVerdict lay plan sheet bits) sheet bits) .sheet)
+          ≡ sizeIn lay (codeOf plan .n1) (codeOf plan .n2)
+      go true = bytes-size lay (codeOf plan .n1) (codeOf plan .n2) _
       go false = e
 
-  pub bits-length : length bits ≡ rowBytes (dataSize (codeOf plan)) → length (readOutcome plan sheet bits .bits) ≡ rowBytes (dataSize (codeOf plan))
-  unfolding readOutcome bitsRead
-  bits-length e = go (eqb (readVerdict plan sheet bits .number) 0)
+  pub bits-length : length bits ≡ rowBytes (dataSize (codeOf plan)) → length (readIn lay plan sheet bits .bits) ≡ rowBytes (dataSize (codeOf plan))
+  unfolding readIn bitsRead
+  bits-length e = go (eqb (readVerdict lay plan sheet bits .number) 0)
     where
-      go : (b : Bool) → length (cond b (taken (codeOf plan) sheet) (refused (readVerdict plan sheet bits) sheet bits) .bits)
+      go : (b : Bool) → length (cond b (taken lay (codeOf plan) sheet) (refused (readVerdict lay plan sheet bits) sheet bits) .bits)
           ≡ rowBytes (dataSize (codeOf plan))
       go true = bytes-form 1 (dataSize (codeOf plan)) _ .size ∙ row-sheet (dataSize (codeOf plan))
       go false = e
@@ -57,11 +60,11 @@ else-told v w p q = go (eqb (v .number) 0)
     go true = q
     go false = p
 
-unused-told : (n1 n2 : ℕ) (s : List ℕ) → OneOf (unusedVerdict n1 n2 s .number)
+unused-told : (lay : Layout) (n1 n2 : ℕ) (s : List ℕ) → OneOf (unusedVerdict lay n1 n2 s .number)
 unfolding unusedVerdict
-unused-told n1 n2 s = go (ltb (firstUnused n1 n2 s) (sheetBytes n1 n2))
+unused-told lay n1 n2 s = go (ltb (firstUnusedIn lay n1 n2 s) (sizeIn lay n1 n2))
   where
-    go : (t : Bool) → OneOf (verdictIf t (refusal 13 (firstUnused n1 n2 s) 0) .number)
+    go : (t : Bool) → OneOf (verdictIf t (refusal 13 (firstUnusedIn lay n1 n2 s) 0) .number)
     go true = inr (inl refl)
     go false = inl refl
 
@@ -69,27 +72,27 @@ found-told : (r : Found) → OneOf (foundVerdict r .number)
 found-told (Burst top left x) = inl refl
 found-told Nothing = inr (inr refl)
 
-module _ (plan sheet bits : List ℕ) where
-  pub read-told : Lengths plan sheet bits → OneOf (readOutcome plan sheet bits .verdict .number)
-  unfolding readOutcome readVerdict readChecks
+module _ (lay : Layout) (plan sheet bits : List ℕ) where
+  pub read-told : Lengths lay plan sheet bits → OneOf (readIn lay plan sheet bits .verdict .number)
+  unfolding readIn readVerdict readChecks
   read-told L =
-      go (eqb (readVerdict plan sheet bits .number) 0)
-      (else-told (readChecks plan sheet bits) (foundVerdict (burstIn (codeOf plan) sheet))
-      (else-told (lengthChecks plan sheet bits) (unusedVerdict (codeOf plan .n1) (codeOf plan .n2) sheet)
-      (inl (ap (λ (v : Verdict). v .number) (lengths-pass plan sheet bits L))) (unused-told (codeOf plan .n1) (codeOf plan .n2) sheet))
-      (found-told (burstIn (codeOf plan) sheet)))
+      go (eqb (readVerdict lay plan sheet bits .number) 0)
+      (else-told (readChecks lay plan sheet bits) (foundVerdict (burstIn lay (codeOf plan) sheet))
+      (else-told (lengthChecks lay plan sheet bits) (unusedVerdict lay (codeOf plan .n1) (codeOf plan .n2) sheet)
+      (inl (ap (λ (v : Verdict). v .number) (lengths-pass lay plan sheet bits L))) (unused-told lay (codeOf plan .n1) (codeOf plan .n2) sheet))
+      (found-told (burstIn lay (codeOf plan) sheet)))
     where
-      go : (t : Bool) → OneOf (readVerdict plan sheet bits .number)
-          → OneOf (cond t (taken (codeOf plan) sheet) (refused (readVerdict plan sheet bits) sheet bits) .verdict .number)
+      go : (t : Bool) → OneOf (readVerdict lay plan sheet bits .number)
+          → OneOf (cond t (taken lay (codeOf plan) sheet) (refused (readVerdict lay plan sheet bits) sheet bits) .verdict .number)
       go true p = inl refl
       go false p = p
 
-  pub read-keeps : (readOutcome plan sheet bits .verdict .number ≡ 0 → ⊥)
-      → (readOutcome plan sheet bits .sheet ≡ sheet) × (readOutcome plan sheet bits .bits ≡ bits)
-  unfolding readOutcome
-  read-keeps = go (eqb (readVerdict plan sheet bits .number) 0)
+  pub read-keeps : (readIn lay plan sheet bits .verdict .number ≡ 0 → ⊥)
+      → (readIn lay plan sheet bits .sheet ≡ sheet) × (readIn lay plan sheet bits .bits ≡ bits)
+  unfolding readIn
+  read-keeps = go (eqb (readVerdict lay plan sheet bits .number) 0)
     where
-      go : (t : Bool) → let o = cond t (taken (codeOf plan) sheet) (refused (readVerdict plan sheet bits) sheet bits) in (o .verdict .number ≡ 0 → ⊥)
+      go : (t : Bool) → let o = cond t (taken lay (codeOf plan) sheet) (refused (readVerdict lay plan sheet bits) sheet bits) in (o .verdict .number ≡ 0 → ⊥)
           → (o .sheet ≡ sheet) × (o .bits ≡ bits)
       go true h = absurd (h refl)
       go false h = (refl, refl)

@@ -25,9 +25,13 @@ use lib.ListN.{length, getD}
 use lib.Arith.{digits-lt, digits-div, digits-mod}
 use Rattle.finite.specs.Search.{bit}
 use Rattle.finite.proofs.Truth.{Truth, is-true, is-false, true-or-false, xor-none, in-within}
-use Rattle.layout.specs.Cells.{rowBytes, sheetBytes, byteOf, RightForm, cellOf, bytesOf, turnedIf, byteTurned}
-use Rattle.layout.proofs.Form.{byte-inside, same-bytes, bytes-form, bytes-cell}
-use Rattle.layout.proofs.Turned.{turned-if-form, turned-if-cell, turned-if-length, turned-if-byte, byte-stays}
+use Rattle.layout.specs.Cells.{rowBytes, sheetBytes, byteOf, byteTurned}
+use Rattle.layout.specs.Stored.{cellIn, FormIn, bytesIn, turnedIn}
+use Rattle.layout.specs.declared.stored.Layout.{Layout}
+use Rattle.layout.specs.declared.stored.Layout.the-variants.{ByRow}
+use Rattle.layout.proofs.Form.{byte-inside}
+use Rattle.layout.proofs.Turned.{turned-if-byte, byte-stays}
+use Rattle.layout.proofs.Layouts.{laws, in-turned-form, in-turned-cell, in-turned-length}
 use Rattle.boxcode.specs.Syndrome.{Cells, flip}
 use Rattle.boxcode.specs.Burst.{boxCells}
 use Rattle.boxcode.proofs.Trial.{box-inside}
@@ -57,56 +61,58 @@ module _ (n1 n2 top left b1 b2 : ℕ) (pos : 1 ≤ b2) (R : Rectangle n1 n2 top 
 
 -- ---- the number of bytes, and one turn of the loop
 
-pub digits-length : (n2 : ℕ) (s : List ℕ) (top left b2 x n : ℕ) → length (digitsTurned n2 s top left b2 x n) ≡ length s
+pub digits-length : (lay : Layout) (n1 n2 : ℕ) (s : List ℕ) (top left b2 x n : ℕ) → length (digitsTurned lay n1 n2 s top left b2 x n) ≡ length s
 unfolding digitsTurned
-digits-length n2 s top left b2 x zero = refl
-digits-length n2 s top left b2 x (suc k) =
-    turned-if-length (bit x k) n2 (digitsTurned n2 s top left b2 x k) (top + k / b2) (left + k % b2) ∙ digits-length n2 s top left b2 x k
+digits-length lay n1 n2 s top left b2 x zero = refl
+digits-length lay n1 n2 s top left b2 x (suc k) =
+    in-turned-length (bit x k) lay n1 n2 (digitsTurned lay n1 n2 s top left b2 x k) (top + k / b2) (left + k % b2) ∙ digits-length lay n1 n2 s top left b2 x k
 
-pub box-length : (n2 : ℕ) (s : List ℕ) (top left b1 b2 x : ℕ) → length (boxTurned n2 s top left b1 b2 x) ≡ length s
+pub box-length : (lay : Layout) (n1 n2 : ℕ) (s : List ℕ) (top left b1 b2 x : ℕ) → length (boxTurned lay n1 n2 s top left b1 b2 x) ≡ length s
 unfolding boxTurned
-box-length n2 s top left b1 b2 x = digits-length n2 s top left b2 x (b1 * b2)
+box-length lay n1 n2 s top left b1 b2 x = digits-length lay n1 n2 s top left b2 x (b1 * b2)
 
-pub digits-none : (n2 : ℕ) (s : List ℕ) (top left b2 x : ℕ) → s ≡ digitsTurned n2 s top left b2 x 0
+pub digits-none : (lay : Layout) (n1 n2 : ℕ) (s : List ℕ) (top left b2 x : ℕ) → s ≡ digitsTurned lay n1 n2 s top left b2 x 0
 unfolding digitsTurned
-digits-none n2 s top left b2 x = refl
+digits-none lay n1 n2 s top left b2 x = refl
 
-pub digits-next : (n2 : ℕ) (s t u : List ℕ) (top left b2 x k : ℕ) → t ≡ digitsTurned n2 s top left b2 x k
-    → u ≡ turnedIf (bit x k) n2 t (top + k / b2) (left + k % b2) → u ≡ digitsTurned n2 s top left b2 x (k + 1)
+pub digits-next : (lay : Layout) (n1 n2 : ℕ) (s t u : List ℕ) (top left b2 x k : ℕ) → t ≡ digitsTurned lay n1 n2 s top left b2 x k
+    → u ≡ turnedIn (bit x k) lay n1 n2 t (top + k / b2) (left + k % b2) → u ≡ digitsTurned lay n1 n2 s top left b2 x (k + 1)
 unfolding digitsTurned
-digits-next n2 s t u top left b2 x k e h =
-    h ∙ ap (λ (y : List ℕ). turnedIf (bit x k) n2 y (top + k / b2) (left + k % b2)) e ∙ ap (digitsTurned n2 s top left b2 x) (sym (add-one k))
+digits-next lay n1 n2 s t u top left b2 x k e h =
+    h ∙ ap (λ (y : List ℕ). turnedIn (bit x k) lay n1 n2 y (top + k / b2) (left + k % b2)) e ∙ ap (digitsTurned lay n1 n2 s top left b2 x) (sym (add-one k))
 
--- ---- one byte
+-- ---- one byte of a sheet by row
 
-module _ (n2 : ℕ) (s : List ℕ) (top left b2 x k : ℕ) where
-  pub byte-none : getD s k 0 ≡ getD (digitsTurned n2 s top left b2 x 0) k 0
+module _ (n1 n2 : ℕ) (s : List ℕ) (top left b2 x k : ℕ) where
+  pub byte-none : getD s k 0 ≡ getD (digitsTurned ByRow n1 n2 s top left b2 x 0) k 0
   unfolding digitsTurned
   byte-none = refl
 
-  pub byte-next : k < length s → (y z m : ℕ) → y ≡ getD (digitsTurned n2 s top left b2 x m) k 0
-      → z ≡ byteTurned (bit x m) n2 (top + m / b2) (left + m % b2) k y → z ≡ getD (digitsTurned n2 s top left b2 x (m + 1)) k 0
+  pub byte-next : k < length s → (y z m : ℕ) → y ≡ getD (digitsTurned ByRow n1 n2 s top left b2 x m) k 0
+      → z ≡ byteTurned (bit x m) n2 (top + m / b2) (left + m % b2) k y → z ≡ getD (digitsTurned ByRow n1 n2 s top left b2 x (m + 1)) k 0
   unfolding digitsTurned
   byte-next l y z m e h =
       h
       ∙ ap (byteTurned (bit x m) n2 (top + m / b2) (left + m % b2) k) e
       ∙ sym
-      (turned-if-byte (bit x m) n2 (digitsTurned n2 s top left b2 x m) (top + m / b2) (left + m % b2) k (omega (arith, digits-length n2 s top left b2 x m)))
-      ∙ ap (λ (n : ℕ). getD (digitsTurned n2 s top left b2 x n) k 0) (sym (add-one m))
+      (turned-if-byte (bit x m) n2 (digitsTurned ByRow n1 n2 s top left b2 x m) (top + m / b2) (left + m % b2) k
+      (omega (arith, digits-length ByRow n1 n2 s top left b2 x m)))
+      ∙ ap (λ (n : ℕ). getD (digitsTurned ByRow n1 n2 s top left b2 x n) k 0) (sym (add-one m))
 
   -- the bytes of no digit
-  module _ (n1 b1 : ℕ) (pos : 1 ≤ b2) (R : Rectangle n1 n2 top left b1 b2) (l : k < length s) where
+  module _ (b1 : ℕ) (pos : 1 ≤ b2) (R : Rectangle n1 n2 top left b1 b2) (l : k < length s) where
     stays : ((m : ℕ) → m < b1 * b2 → byteOf n2 (top + m / b2) (left + m % b2) ≡ k → ⊥) → (m : ℕ) → m ≤ b1 * b2
-        → getD s k 0 ≡ getD (digitsTurned n2 s top left b2 x m) k 0
+        → getD s k 0 ≡ getD (digitsTurned ByRow n1 n2 s top left b2 x m) k 0
     unfolding digitsTurned
     stays h zero lm = refl
     stays h (suc m) lm =
         stays h m (omega arith)
         ∙ sym
-        (turned-if-byte (bit x m) n2 (digitsTurned n2 s top left b2 x m) (top + m / b2) (left + m % b2) k (omega (arith, digits-length n2 s top left b2 x m))
-        ∙ byte-stays (bit x m) n2 (top + m / b2) (left + m % b2) k (getD (digitsTurned n2 s top left b2 x m) k 0) (h m (omega arith)))
+        (turned-if-byte (bit x m) n2 (digitsTurned ByRow n1 n2 s top left b2 x m) (top + m / b2) (left + m % b2) k
+        (omega (arith, digits-length ByRow n1 n2 s top left b2 x m))
+        ∙ byte-stays (bit x m) n2 (top + m / b2) (left + m % b2) k (getD (digitsTurned ByRow n1 n2 s top left b2 x m) k 0) (h m (omega arith)))
 
-    pub byte-above : k < top * rowBytes n2 → getD s k 0 ≡ getD (boxTurned n2 s top left b1 b2 x) k 0
+    pub byte-above : k < top * rowBytes n2 → getD s k 0 ≡ getD (boxTurned ByRow n1 n2 s top left b1 b2 x) k 0
     unfolding boxTurned byteOf
     byte-above a =
         stays
@@ -114,7 +120,7 @@ module _ (n2 : ℕ) (s : List ℕ) (top left b2 x k : ℕ) where
         let g : top * rowBytes n2 ≤ (top + m / b2) * rowBytes n2 = mul-le-mul-right (rowBytes n2) (omega arith) in
         omega arith) (b1 * b2) (omega arith)
 
-    pub byte-below : (top + b1) * rowBytes n2 ≤ k → getD s k 0 ≡ getD (boxTurned n2 s top left b1 b2 x) k 0
+    pub byte-below : (top + b1) * rowBytes n2 ≤ k → getD s k 0 ≡ getD (boxTurned ByRow n1 n2 s top left b1 b2 x) k 0
     unfolding boxTurned
     byte-below b =
         stays
@@ -236,29 +242,30 @@ module _ (top left b1 b2 x : ℕ) (pos : 1 ≤ b2) where
           let lc : d - left < b2 = omega arith in
           rw t (lt-ltb _ (b1 * b2) (digits-lt lr lc))
 
-  module _ (n1 n2 : ℕ) (s : List ℕ) (f : RightForm n1 n2 s) (R : Rectangle n1 n2 top left b1 b2) where
-    pub digits-form : (n : ℕ) → n ≤ b1 * b2 → RightForm n1 n2 (digitsTurned n2 s top left b2 x n)
+  module _ (lay : Layout) (n1 n2 : ℕ) (s : List ℕ) (f : FormIn lay n1 n2 s) (R : Rectangle n1 n2 top left b1 b2) where
+    pub digits-form : (n : ℕ) → n ≤ b1 * b2 → FormIn lay n1 n2 (digitsTurned lay n1 n2 s top left b2 x n)
     unfolding digitsTurned
     digits-form zero l = f
     digits-form (suc k) l =
-        turned-if-form n1 n2 (digitsTurned n2 s top left b2 x k) (digits-form k (omega arith)) (top + k / b2) (left + k % b2)
+        in-turned-form lay n1 n2 (digitsTurned lay n1 n2 s top left b2 x k) (digits-form k (omega arith)) (top + k / b2) (left + k % b2)
         (digit-row n1 n2 top left b1 b2 pos R k l) (digit-column n1 n2 top left b1 b2 pos R k) (bit x k)
 
-    digits-cell : (n : ℕ) → n ≤ b1 * b2 → (a d : ℕ) → a < n1 → d < n2 → cellOf n2 (digitsTurned n2 s top left b2 x n) a d ≡ xor (cellOf n2 s a d) (first n a d)
+    digits-cell : (n : ℕ) → n ≤ b1 * b2 → (a d : ℕ) → a < n1 → d < n2
+        → cellIn lay n1 n2 (digitsTurned lay n1 n2 s top left b2 x n) a d ≡ xor (cellIn lay n1 n2 s a d) (first n a d)
     unfolding digitsTurned
-    digits-cell zero l a d la ld = sym (xor-none (cellOf n2 s a d)) ∙ ap (xor (cellOf n2 s a d)) (sym (none a d))
+    digits-cell zero l a d la ld = sym (xor-none (cellIn lay n1 n2 s a d)) ∙ ap (xor (cellIn lay n1 n2 s a d)) (sym (none a d))
     digits-cell (suc k) l a d la ld =
-        turned-if-cell n1 n2 (digitsTurned n2 s top left b2 x k) (digits-form k (omega arith)) (top + k / b2) (left + k % b2)
+        in-turned-cell lay n1 n2 (digitsTurned lay n1 n2 s top left b2 x k) (digits-form k (omega arith)) (top + k / b2) (left + k % b2)
         (digit-row n1 n2 top left b1 b2 pos R k l) (digit-column n1 n2 top left b1 b2 pos R k) (bit x k) a d la ld
         ∙ ap (λ (y : Bool). xor y (bit x k && (eqb (top + k / b2) a && eqb (left + k % b2) d))) (digits-cell k (omega arith) a d la ld)
-        ∙ step k l (cellOf n2 s a d) a d
+        ∙ step k l (cellIn lay n1 n2 s a d) a d
 
-    pub box-turned : boxTurned n2 s top left b1 b2 x ≡ bytesOf n1 n2 (flip (cellOf n2 s) (boxCells top left b1 b2 x))
+    pub box-turned : boxTurned lay n1 n2 s top left b1 b2 x ≡ bytesIn lay n1 n2 (flip (cellIn lay n1 n2 s) (boxCells top left b1 b2 x))
     unfolding boxTurned
     box-turned =
-        same-bytes n1 n2 (digitsTurned n2 s top left b2 x (b1 * b2)) (bytesOf n1 n2 (flip (cellOf n2 s) (boxCells top left b1 b2 x)))
-        (digits-form (b1 * b2) (omega arith)) (bytes-form n1 n2 (flip (cellOf n2 s) (boxCells top left b1 b2 x)))
+        laws lay n1 n2 .same (digitsTurned lay n1 n2 s top left b2 x (b1 * b2)) (bytesIn lay n1 n2 (flip (cellIn lay n1 n2 s) (boxCells top left b1 b2 x)))
+        (digits-form (b1 * b2) (omega arith)) (laws lay n1 n2 .form (flip (cellIn lay n1 n2 s) (boxCells top left b1 b2 x)))
         (λ a d la ld.
         digits-cell (b1 * b2) (omega arith) a d la ld
-        ∙ ap (xor (cellOf n2 s a d)) (all a d)
-        ∙ sym (bytes-cell n1 n2 (flip (cellOf n2 s) (boxCells top left b1 b2 x)) a d la ld))
+        ∙ ap (xor (cellIn lay n1 n2 s a d)) (all a d)
+        ∙ sym (laws lay n1 n2 .cell (flip (cellIn lay n1 n2 s) (boxCells top left b1 b2 x)) a d la ld))

@@ -1,7 +1,9 @@
 // The burst of a sheet: found, which writes nothing, and then turned over, which is all that writes.
 ghost use mathlib.Core.Path.{_≡_};
 ghost use lib.ListN.{length};
-ghost use Rattle.layout.specs.Cells.{rowBytes, sheetBytes, cellOf, RightForm};
+ghost use Rattle.layout.specs.Cells.{rowBytes, cellOf, RightForm};
+ghost use Rattle.layout.specs.Stored.{sizeIn, cellIn, FormIn};
+ghost use Rattle.layout.specs.declared.stored.Layout.the-variants.{ByRow};
 ghost use Rattle.boxcode.specs.Syndrome.{rowSyndrome, columnSyndrome};
 ghost use Rattle.boxcode.specs.Check.{dataSize};
 ghost use Rattle.plan.specs.Bytes.{codeWith};
@@ -11,6 +13,7 @@ ghost use Rattle.mend.specs.Found.{FoundFor, IsBurst};
 ghost use Rattle.reader.specs.Read.{outcome, taken, bitsRead};
 use crate::answer::Answer;
 use crate::turn::turn_box;
+use layout::stored::Layout;
 use mend::find::find;
 use mend::found::Found;
 use mend::report::report_of;
@@ -18,27 +21,23 @@ use payload::held::turn_bit_if;
 use payload::transfer::take;
 use plan::header::Header;
 use plan::verdict::accept;
-use syndrome::gather::sums;
-use syndrome::run::Run;
+use syndrome::whole::sheet_sums;
 
 // The burst with the two sums of a sheet, under an accepted plan.
-pub fn find_burst(plan: &[u8], h: Header, columns: &[u64], sheet: &[u8]) -> Found
+pub fn find_burst(lay: Layout, plan: &[u8], h: Header, columns: &[u64], sheet: &[u8]) -> Found
     requires { ⌜ AcceptedWith (now plan) h ⌝ }
     requires { ⌜ Unpacked (now plan) h (now columns) ⌝ }
-    requires { ⌜ length (now sheet) ≡ sheetBytes (h .n1) (h .n2) ⌝ }
-    ensures { λ r. ⌜ (let c = codeWith (now (plan .entry)) h in let s = cellOf (h .n2) (now (sheet .entry)) in
+    requires { ⌜ length (now sheet) ≡ sizeIn lay (h .n1) (h .n2) ⌝ }
+    ensures { λ r. ⌜ (let c = codeWith (now (plan .entry)) h in let s = cellIn lay (h .n1) (h .n2) (now (sheet .entry)) in
         FoundFor c (rowSyndrome c s) (columnSyndrome c s) r) ⌝ }
 {
-    let whole = Run {
-        first: 0,
-        past: h.n1,
-    };
-    let s = sums(sheet, plan, h, columns, whole);
+    let s = sheet_sums(lay, sheet, plan, h, columns);
     find(plan, h, columns, s.row, s.column)
 }
 
 // Turns that burst over, takes the data of the mended sheet, and reports.
 pub fn apply_burst(
+    lay: Layout,
     plan: &[u8],
     h: Header,
     sheet: &mut [u8],
@@ -48,21 +47,21 @@ pub fn apply_burst(
     x: u64,
 ) -> Answer
     requires { ⌜ AcceptedWith (now plan) h ⌝ }
-    requires { ⌜ RightForm (h .n1) (h .n2) (now sheet) ⌝ }
+    requires { ⌜ FormIn lay (h .n1) (h .n2) (now sheet) ⌝ }
     requires { ⌜ length (now bits) ≡ rowBytes (dataSize (codeWith (now plan) h)) ⌝ }
-    requires { ⌜ (let c = codeWith (now plan) h in let s = cellOf (h .n2) (now sheet) in
+    requires { ⌜ (let c = codeWith (now plan) h in let s = cellIn lay (h .n1) (h .n2) (now sheet) in
         IsBurst c (rowSyndrome c s) (columnSyndrome c s) top left x) ⌝ }
-    ensures { λ r. ⌜ outcome r (now (sheet .exit)) (now (bits .exit)) ≡ taken (codeWith (now (plan .entry)) h) (now (sheet .entry)) ⌝ }
+    ensures { λ r. ⌜ outcome r (now (sheet .exit)) (now (bits .exit)) ≡ taken lay (codeWith (now (plan .entry)) h) (now (sheet .entry)) ⌝ }
 {
-    turn_box(sheet, h.n1, h.n2, top, left, h.b1, h.b2, x);
-    take(plan, h, sheet, bits);
+    turn_box(lay, sheet, h.n1, h.n2, top, left, h.b1, h.b2, x);
+    take(lay, plan, h, sheet, bits);
     Answer {
         verdict: accept(),
         report: report_of(top, left, h.b1, h.b2, x),
     }
 }
 
-// The data of the sheet with that burst turned over, where the sheet keeps its bytes: the data of the sheet as it is, and then the bits of
+// The data of a sheet by row with that burst turned over, where the sheet keeps its bytes: the data of the sheet as it is, and then the bits of
 // the burst's cells turned over.
 pub fn take_mended(
     plan: &[u8],
@@ -78,9 +77,9 @@ pub fn take_mended(
     requires { ⌜ length (now bits) ≡ rowBytes (dataSize (codeWith (now plan) h)) ⌝ }
     requires { ⌜ (let c = codeWith (now plan) h in let s = cellOf (h .n2) (now sheet) in
         IsBurst c (rowSyndrome c s) (columnSyndrome c s) top left x) ⌝ }
-    ensures { λ _. ⌜ now (bits .exit) ≡ bitsRead (codeWith (now (plan .entry)) h) (now (sheet .entry)) ⌝ }
+    ensures { λ _. ⌜ now (bits .exit) ≡ bitsRead ByRow (codeWith (now (plan .entry)) h) (now (sheet .entry)) ⌝ }
 {
-    take(plan, h, sheet, bits);
+    take(Layout::ByRow, plan, h, sheet, bits);
     let b2 = h.b2;
     let size = h.b1 * b2;
     let mut k = 0;

@@ -13,6 +13,7 @@ use Prim.Native.Nat.{ℕ}
 use borrow.Author.Tests.{eq-eqb, ne-eqb}
 use lib.Dec.{eqb}
 use Rattle.layout.specs.Differ.{agree}
+use Rattle.layout.specs.declared.stored.Layout.the-variants.{ByRow}
 use Rattle.boxcode.specs.Code.{Code}
 use Rattle.plan.specs.declared.verdict.Verdict.{Verdict}
 use Rattle.plan.specs.Verdict.{accepted, refusal, _orElse_}
@@ -37,17 +38,17 @@ module _ (plan first second bits : List ℕ) where
   two-refuses h = rw (ne-eqb (readTwoChecks plan first second bits .number) 0 h)
 
   pub two-decides : readTwoChecks plan first second bits .number ≡ 0
-      → decide (mendOutcome (codeOf plan) first bits) (mendOutcome (codeOf plan) second bits) bits ≡ readTwo plan first second bits
+      → decide (mendOutcome ByRow (codeOf plan) first bits) (mendOutcome ByRow (codeOf plan) second bits) bits ≡ readTwo plan first second bits
   unfolding readTwo
   two-decides e =
       let M = two-zero plan first second bits e in
       let B = M .both in
-      let one = passes (reads-pass plan first bits
+      let one = passes (reads-pass ByRow plan first bits
       (record { lengths = record { accepted = B .accepted; sheet-size = B .first-form .size; bits-size = M .bits-size }; form = B .first-form })) in
-      let other = passes (reads-pass plan second bits
+      let other = passes (reads-pass ByRow plan second bits
       (record { lengths = record { accepted = B .accepted; sheet-size = B .second-form .size; bits-size = M .bits-size }; form = B .second-form })) in
       rw (eq-eqb (readTwoChecks plan first second bits .number) 0 e)
-      (ap₂ (λ (a b : Outcome). decide a b bits) (read-mends plan first bits one) (read-mends plan second bits other))
+      (ap₂ (λ (a b : Outcome). decide a b bits) (read-mends ByRow plan first bits one) (read-mends ByRow plan second bits other))
 
 -- a read that succeeds
 abbrev succeeds : Report → List ℕ → List ℕ → Outcome
@@ -79,11 +80,11 @@ module _ (r r' : Report) (s s' b b' old : List ℕ) where
   decide-differ e = rw e
 
 pub decide-alone : (c : Code) (first second old : List ℕ)
-    → alone (mendOutcome c second old) ≡ decide (fails first old) (mendOutcome c second old) old
+    → alone (mendOutcome ByRow c second old) ≡ decide (fails first old) (mendOutcome ByRow c second old) old
 unfolding mendOutcome decide _orElse_
-decide-alone c first second old = go (burstIn c second)
+decide-alone c first second old = go (burstIn ByRow c second)
   where
-    go : (r : Found) → let o = cond (eqb (foundVerdict r .number) 0) (taken c second) (refused (foundVerdict r) second old) in
+    go : (r : Found) → let o = cond (eqb (foundVerdict r .number) 0) (taken ByRow c second) (refused (foundVerdict r) second old) in
         alone o ≡ decide (fails first old) o old
     go (Burst top left x) = refl
     go Nothing = refl

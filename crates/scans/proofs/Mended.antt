@@ -13,6 +13,7 @@ use native.Mathlib.Omega.{arith}
 use Rattle.finite.proofs.Truth.{same-truth}
 use Rattle.layout.specs.Cells.{cellOf, RightForm}
 use Rattle.layout.specs.Differ.{agree}
+use Rattle.layout.specs.declared.stored.Layout.the-variants.{ByRow}
 use Rattle.layout.proofs.Form.{bytes-form, bytes-cell, bytes-equal}
 use Rattle.layout.proofs.Agreement.{agree-equal, equal-agree}
 use Rattle.boxcode.specs.Code.{Code, Formed}
@@ -35,7 +36,7 @@ mended-belongs c F s m = change-fits c F s m
 
 module _ (c : Code) (F : Formed c) (K : Conditions c) (s t : List ℕ) (ms : mendable c (cellOf (c .n2) s) ≡ true)
     (mt : mendable c (cellOf (c .n2) t) ≡ true) where
-  pub bits-sheets : bitsRead c s ≡ bitsRead c t → sheetRead c s ≡ sheetRead c t
+  pub bits-sheets : bitsRead ByRow c s ≡ bitsRead ByRow c t → sheetRead ByRow c s ≡ sheetRead ByRow c t
   unfolding sheetRead bitsRead
   bits-sheets e =
       let p = mended c (cellOf (c .n2) s) in
@@ -47,25 +48,25 @@ module _ (c : Code) (F : Formed c) (K : Conditions c) (s t : List ℕ) (ms : men
       ∙ ap (λ (y : List ℕ). cellOf (dataSize c) y 0 d) e
       ∙ bytes-cell 1 (dataSize c) (λ i d. dataOf c q d) 0 d (omega arith) l))
 
-  pub sheets-bits : sheetRead c s ≡ sheetRead c t → bitsRead c s ≡ bitsRead c t
+  pub sheets-bits : sheetRead ByRow c s ≡ sheetRead ByRow c t → bitsRead ByRow c s ≡ bitsRead ByRow c t
   sheets-bits e =
-      sym (burst-bits c F s (sheetRead c s) refl)
+      sym (burst-bits ByRow c F s (sheetRead ByRow c s) refl)
       ∙ ap (λ (y : List ℕ). packedData c (cellOf (c .n2) y)) e
-      ∙ burst-bits c F t (sheetRead c t) refl
+      ∙ burst-bits ByRow c F t (sheetRead ByRow c t) refl
 
-  pub agree-mended : agree (sheetRead c s) (sheetRead c t) ≡ agree (bitsRead c s) (bitsRead c t)
+  pub agree-mended : agree (sheetRead ByRow c s) (sheetRead ByRow c t) ≡ agree (bitsRead ByRow c s) (bitsRead ByRow c t)
   unfolding sheetRead bitsRead
   agree-mended =
       let p = mended c (cellOf (c .n2) s) in
       let q = mended c (cellOf (c .n2) t) in
-      same-truth (agree (sheetRead c s) (sheetRead c t)) (agree (bitsRead c s) (bitsRead c t))
+      same-truth (agree (sheetRead ByRow c s) (sheetRead ByRow c t)) (agree (bitsRead ByRow c s) (bitsRead ByRow c t))
       (λ a.
-      equal-agree (bitsRead c s) (bitsRead c t)
-      (sheets-bits (agree-equal (sheetRead c s) (sheetRead c t) (bytes-form (c .n1) (c .n2) p .size ∙ sym (bytes-form (c .n1) (c .n2) q .size)) a)))
+      equal-agree (bitsRead ByRow c s) (bitsRead ByRow c t)
+      (sheets-bits (agree-equal (sheetRead ByRow c s) (sheetRead ByRow c t) (bytes-form (c .n1) (c .n2) p .size ∙ sym (bytes-form (c .n1) (c .n2) q .size)) a)))
       (λ a.
-      equal-agree (sheetRead c s) (sheetRead c t)
+      equal-agree (sheetRead ByRow c s) (sheetRead ByRow c t)
       (bits-sheets
-      (agree-equal (bitsRead c s) (bitsRead c t)
+      (agree-equal (bitsRead ByRow c s) (bitsRead ByRow c t)
       (bytes-form 1 (dataSize c) (λ i d. dataOf c p d) .size ∙ sym (bytes-form 1 (dataSize c) (λ i d. dataOf c q d) .size)) a)))
 
 module _ (c : Code) (F : Formed c) (K : Conditions c) where
@@ -75,11 +76,11 @@ module _ (c : Code) (F : Formed c) (K : Conditions c) where
 
   pub agree-found : (s : List ℕ) → RightForm (c .n1) (c .n2) s → (top left x : ℕ) → FoundOn s top left x
       → (t : List ℕ) → RightForm (c .n1) (c .n2) t → (top' left' x' : ℕ) → FoundOn t top' left' x'
-      → (r : Bool) → r ≡ agree (boxTurned (c .n2) s top left (c .b1) (c .b2) x) (boxTurned (c .n2) t top' left' (c .b1) (c .b2) x')
-      → agree (bitsRead c s) (bitsRead c t) ≡ r
+      → (r : Bool) → r ≡ agree (boxTurned ByRow (c .n1) (c .n2) s top left (c .b1) (c .b2) x) (boxTurned ByRow (c .n1) (c .n2) t top' left' (c .b1) (c .b2) x')
+      → agree (bitsRead ByRow c s) (bitsRead ByRow c t) ≡ r
   unfolding mendable
   agree-found s f top left x b t g top' left' x' b' r e =
       sym
       (e
-      ∙ ap₂ agree (burst-sheet c F s f top left x b) (burst-sheet c F t g top' left' x' b')
+      ∙ ap₂ agree (burst-sheet ByRow c F s f top left x b) (burst-sheet ByRow c F t g top' left' x' b')
       ∙ agree-mended c F K s t (b .has) (b' .has))

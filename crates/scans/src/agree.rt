@@ -3,6 +3,7 @@ ghost use mathlib.Core.Path.{_≡_};
 ghost use lib.ListN.{length};
 ghost use Rattle.layout.specs.Cells.{sheetBytes};
 ghost use Rattle.layout.specs.Differ.{agree};
+ghost use Rattle.layout.specs.declared.stored.Layout.the-variants.{ByRow};
 ghost use Rattle.plan.specs.Header.{Small};
 ghost use Rattle.reader.specs.Turn.{Rectangle, boxTurned};
 use plan::header::Header;
@@ -25,8 +26,8 @@ pub fn mended_agree(
     requires { ⌜ Rectangle (h .n1) (h .n2) top left (h .b1) (h .b2) ⌝ }
     requires { ⌜ length (now second) ≡ sheetBytes (h .n1) (h .n2) ⌝ }
     requires { ⌜ Rectangle (h .n1) (h .n2) top2 left2 (h .b1) (h .b2) ⌝ }
-    ensures { λ r. ⌜ r ≡ agree (boxTurned (h .n2) (now (first .entry)) top left (h .b1) (h .b2) x)
-        (boxTurned (h .n2) (now (second .entry)) top2 left2 (h .b1) (h .b2) x2) ⌝ }
+    ensures { λ r. ⌜ r ≡ agree (boxTurned ByRow (h .n1) (h .n2) (now (first .entry)) top left (h .b1) (h .b2) x)
+        (boxTurned ByRow (h .n1) (h .n2) (now (second .entry)) top2 left2 (h .b1) (h .b2) x2) ⌝ }
 {
     let mut k = 0;
     while k < first.len() {

@@ -2,6 +2,7 @@
 ghost use mathlib.Core.Path.{_≡_};
 ghost use lib.ListN.{length};
 ghost use Rattle.layout.specs.Cells.{rowBytes, cellOf, RightForm};
+ghost use Rattle.layout.specs.declared.stored.Layout.the-variants.{ByRow};
 ghost use Rattle.boxcode.specs.Syndrome.{rowSyndrome, columnSyndrome};
 ghost use Rattle.boxcode.specs.Check.{dataSize};
 ghost use Rattle.plan.specs.Bytes.{codeWith};
@@ -12,6 +13,7 @@ ghost use Rattle.reader.specs.Read.{taken, mendOutcome};
 ghost use Rattle.scans.specs.ReadTwo.{twoRead, alone, decide, readTwo};
 use crate::agree::mended_agree;
 use buffers::call::read_two_checks;
+use layout::stored::Layout;
 use mend::found::Found;
 use plan::entry::header_of;
 use plan::header::Header;
@@ -45,7 +47,7 @@ fn read_both(
         IsBurst c (rowSyndrome c s) (columnSyndrome c s) top2 left2 x2) ⌝ }
     requires { ⌜ length (now bits) ≡ rowBytes (dataSize (codeWith (now plan) h)) ⌝ }
     ensures { λ r. ⌜ (let c = codeWith (now (plan .entry)) h in
-        twoRead r (now (bits .exit)) ≡ decide (taken c (now (first .entry))) (taken c (now (second .entry))) (now (bits .entry))) ⌝ }
+        twoRead r (now (bits .exit)) ≡ decide (taken ByRow c (now (first .entry))) (taken ByRow c (now (second .entry))) (now (bits .entry))) ⌝ }
 {
     if !mended_agree(h, first, top, left, x, second, top2, left2, x2) {
         return refuse(19, 0, 0);
@@ -60,9 +62,9 @@ fn read_alone(plan: &[u8], h: Header, columns: &[u64], scan: &[u8], bits: &mut [
     requires { ⌜ Unpacked (now plan) h (now columns) ⌝ }
     requires { ⌜ RightForm (h .n1) (h .n2) (now scan) ⌝ }
     requires { ⌜ length (now bits) ≡ rowBytes (dataSize (codeWith (now plan) h)) ⌝ }
-    ensures { λ r. ⌜ twoRead r (now (bits .exit)) ≡ alone (mendOutcome (codeWith (now (plan .entry)) h) (now (scan .entry)) (now (bits .entry))) ⌝ }
+    ensures { λ r. ⌜ twoRead r (now (bits .exit)) ≡ alone (mendOutcome ByRow (codeWith (now (plan .entry)) h) (now (scan .entry)) (now (bits .entry))) ⌝ }
 {
-    let Found::Burst(top, left, x) = find_burst(plan, h, columns, scan) else {
+    let Found::Burst(top, left, x) = find_burst(Layout::ByRow, plan, h, columns, scan) else {
         return refuse(14, 0, 0);
     };
     take_mended(plan, h, scan, bits, top, left, x);
@@ -84,12 +86,12 @@ fn read_scans(
     requires { ⌜ RightForm (h .n1) (h .n2) (now second) ⌝ }
     requires { ⌜ length (now bits) ≡ rowBytes (dataSize (codeWith (now plan) h)) ⌝ }
     ensures { λ r. ⌜ (let c = codeWith (now (plan .entry)) h in let old = now (bits .entry) in twoRead r (now (bits .exit))
-        ≡ decide (mendOutcome c (now (first .entry)) old) (mendOutcome c (now (second .entry)) old) old) ⌝ }
+        ≡ decide (mendOutcome ByRow c (now (first .entry)) old) (mendOutcome ByRow c (now (second .entry)) old) old) ⌝ }
 {
-    let Found::Burst(top, left, x) = find_burst(plan, h, columns, first) else {
+    let Found::Burst(top, left, x) = find_burst(Layout::ByRow, plan, h, columns, first) else {
         return read_alone(plan, h, columns, second, bits);
     };
-    let Found::Burst(top2, left2, x2) = find_burst(plan, h, columns, second) else {
+    let Found::Burst(top2, left2, x2) = find_burst(Layout::ByRow, plan, h, columns, second) else {
         take_mended(plan, h, first, bits, top, left, x);
         return accept();
     };

@@ -21,7 +21,11 @@ use native.Mathlib.Omega.{arith}
 use borrow.Author.Tests.{eqb-true}
 use lib.Dec.{eqb, leb}
 use lib.ListN.{length}
-use Rattle.layout.specs.Cells.{rowBytes, sheetBytes, firstUnused, cellOf}
+use Rattle.layout.specs.Cells.{rowBytes, sheetBytes, cellOf}
+use Rattle.layout.specs.Stored.{sizeIn, cellIn, firstUnusedIn}
+use Rattle.layout.specs.declared.stored.Layout.{Layout}
+use Rattle.layout.specs.declared.stored.Layout.the-variants.{ByRow}
+use Rattle.layout.proofs.Layouts as layouts
 use Rattle.layout.specs.Differ.{agree}
 use Rattle.boxcode.specs.Code.{Code, Formed}
 use Rattle.boxcode.specs.Check.{dataSize, belongs}
@@ -36,7 +40,7 @@ use Rattle.accept.proofs.Range.{SmallVerdict, accepted-fits, else-fits, if-fits
 use Rattle.buffers.specs.Buffers.{numbersSize, numbersLength}
 use Rattle.buffers.specs.Buffers.{lengthVerdict, unusedVerdict, sheetLength, dataLength, sumsLength}
 use Rattle.buffers.specs.Buffers.{sheetChecks, lengthChecks, writeChecks, readChecks, formChecks, sumsChecks, scanLengths, readTwoChecks}
-use Rattle.buffers.proofs.Passing.{bytes-most, size-most, sheet-zero, length-zero, scans-fit}
+use Rattle.buffers.proofs.Passing.{size-most, sheet-zero, length-zero, scans-fit}
 use Rattle.mend.specs.declared.report.Report.{Report}
 use Rattle.mend.specs.Report.{reportAs}
 use Rattle.mend.specs.declared.found.Found.{Found}
@@ -44,11 +48,11 @@ use Rattle.mend.specs.declared.found.Found.the-variants.{Burst, Nothing}
 use Rattle.mend.specs.Found.{foundVerdict}
 use Rattle.mend.proofs.First.{first-report}
 use Rattle.reader.proofs.Cases.{zero-reads}
-use Rattle.reader.specs.Read.{Outcome, burstIn, readVerdict, reportRead, taken, refused, readOutcome}
+use Rattle.reader.specs.Read.{Outcome, burstIn, readVerdict, reportRead, taken, refused, readIn, readOutcome}
 use Rattle.maker.specs.declared.parameters.Parameters.{Parameters}
 use Rattle.maker.specs.Make.{Made, made, make}
 use Rattle.maker.proofs.Range.{make-fits}
-use Rattle.writer.specs.Write.{write}
+use Rattle.writer.specs.Write.{writeIn}
 use Rattle.runsums.specs.RunSums.{sumRun}
 use Rattle.difference.specs.declared.Part.{Part}
 use Rattle.difference.specs.Difference.{difference}
@@ -68,54 +72,54 @@ length-fits : (n : ℕ) (s : List ℕ) (size : ℕ) → n < 32 → SmallVerdict 
 unfolding lengthVerdict
 length-fits n s size = told-fits (not (eqb (length s) size)) n
 
-unused-fits : (n1 n2 : ℕ) (s : List ℕ) → sheetBytes n1 n2 ≤ 45056 → SmallVerdict (unusedVerdict n1 n2 s)
+unused-fits : (lay : Layout) (n1 n2 : ℕ) (s : List ℕ) → sizeIn lay n1 n2 ≤ 45056 → SmallVerdict (unusedVerdict lay n1 n2 s)
 unfolding unusedVerdict
-unused-fits n1 n2 s u =
-    at-fits (sheetBytes n1 n2) (firstUnused n1 n2 s) (refusal 13 (firstUnused n1 n2 s) 0)
+unused-fits lay n1 n2 s u =
+    at-fits (sizeIn lay n1 n2) (firstUnusedIn lay n1 n2 s) (refusal 13 (firstUnusedIn lay n1 n2 s) 0)
     (λ l. record { number-fits = omega arith; p-fits = omega arith; q-fits = omega arith })
 
 -- checks 1 to 11; 1 to 12, and then others
-sheets-fit : (plan sheet : List ℕ) → SmallVerdict (sheetChecks plan sheet)
+sheets-fit : (lay : Layout) (plan sheet : List ℕ) → SmallVerdict (sheetChecks lay plan sheet)
 unfolding sheetChecks
-sheets-fit plan sheet =
+sheets-fit lay plan sheet =
     let c = codeOf plan in
-    else-fits (planVerdict plan) (sheetLength c sheet) (plan-fits plan) (λ _. length-fits 11 sheet (sheetBytes (c .n1) (c .n2)) (omega arith))
+    else-fits (planVerdict plan) (sheetLength lay c sheet) (plan-fits plan) (λ _. length-fits 11 sheet (sizeIn lay (c .n1) (c .n2)) (omega arith))
 
-lengths-fit : (plan sheet bits : List ℕ) → SmallVerdict (lengthChecks plan sheet bits)
+lengths-fit : (lay : Layout) (plan sheet bits : List ℕ) → SmallVerdict (lengthChecks lay plan sheet bits)
 unfolding lengthChecks
-lengths-fit plan sheet bits =
+lengths-fit lay plan sheet bits =
     let c = codeOf plan in
-    else-fits (sheetChecks plan sheet) (dataLength c bits) (sheets-fit plan sheet) (λ _. length-fits 12 bits (rowBytes (dataSize c)) (omega arith))
+    else-fits (sheetChecks lay plan sheet) (dataLength c bits) (sheets-fit lay plan sheet) (λ _. length-fits 12 bits (rowBytes (dataSize c)) (omega arith))
 
-after-lengths : (plan sheet bits : List ℕ) (v : Verdict) → (Formed (codeOf plan) → SmallVerdict v) → SmallVerdict (lengthChecks plan sheet bits orElse v)
-after-lengths plan sheet bits v f =
-    else-fits (lengthChecks plan sheet bits) v (lengths-fit plan sheet bits) (λ e. f (length-zero plan sheet bits e .accepted .formed))
+after-lengths : (lay : Layout) (plan sheet bits : List ℕ) (v : Verdict) → (Formed (codeOf plan) → SmallVerdict v)
+    → SmallVerdict (lengthChecks lay plan sheet bits orElse v)
+after-lengths lay plan sheet bits v f =
+    else-fits (lengthChecks lay plan sheet bits) v (lengths-fit lay plan sheet bits) (λ e. f (length-zero lay plan sheet bits e .accepted .formed))
 
 data-bytes : (k : ℕ) → k ≤ 357376 → sheetBytes 1 k ≤ 45056
 unfolding sheetBytes rowBytes
 data-bytes k l = omega arith
 
-sheet-bytes : (plan : List ℕ) → Formed (codeOf plan) → sheetBytes (codeOf plan .n1) (codeOf plan .n2) ≤ 45056
-unfolding sheetBytes
-sheet-bytes plan F = bytes-most plan (rowBytes (codeOf plan .n2)) F refl
+sheet-bytes : (lay : Layout) (plan : List ℕ) → Formed (codeOf plan) → sizeIn lay (codeOf plan .n1) (codeOf plan .n2) ≤ 45056
+sheet-bytes lay plan F = layouts.size-most lay (codeOf plan .n1) (codeOf plan .n2) (record { n1-most = F .n1-most; n2-most = F .n2-most })
 
-pub write-fits : (plan bits sheet : List ℕ) → SmallVerdict (writeChecks plan bits sheet)
+pub write-fits : (lay : Layout) (plan bits sheet : List ℕ) → SmallVerdict (writeChecks lay plan bits sheet)
 unfolding writeChecks
-write-fits plan bits sheet =
-    after-lengths plan sheet bits (unusedVerdict 1 (dataSize (codeOf plan)) bits)
-    (λ F. unused-fits 1 (dataSize (codeOf plan)) bits (data-bytes (dataSize (codeOf plan)) (size-most plan F)))
+write-fits lay plan bits sheet =
+    after-lengths lay plan sheet bits (unusedVerdict ByRow 1 (dataSize (codeOf plan)) bits)
+    (λ F. unused-fits ByRow 1 (dataSize (codeOf plan)) bits (data-bytes (dataSize (codeOf plan)) (size-most plan F)))
 
-reads-fit : (plan sheet bits : List ℕ) → SmallVerdict (readChecks plan sheet bits)
+reads-fit : (lay : Layout) (plan sheet bits : List ℕ) → SmallVerdict (readChecks lay plan sheet bits)
 unfolding readChecks
-reads-fit plan sheet bits =
-    after-lengths plan sheet bits (unusedVerdict (codeOf plan .n1) (codeOf plan .n2) sheet)
-    (λ F. unused-fits (codeOf plan .n1) (codeOf plan .n2) sheet (sheet-bytes plan F))
+reads-fit lay plan sheet bits =
+    after-lengths lay plan sheet bits (unusedVerdict lay (codeOf plan .n1) (codeOf plan .n2) sheet)
+    (λ F. unused-fits lay (codeOf plan .n1) (codeOf plan .n2) sheet (sheet-bytes lay plan F))
 
 pub forms-fit : (plan sheet : List ℕ) → SmallVerdict (formChecks plan sheet)
 unfolding formChecks
 forms-fit plan sheet =
-    else-fits (sheetChecks plan sheet) (unusedVerdict (codeOf plan .n1) (codeOf plan .n2) sheet) (sheets-fit plan sheet)
-    (λ e. unused-fits (codeOf plan .n1) (codeOf plan .n2) sheet (sheet-bytes plan (sheet-zero plan sheet e .accepted .formed)))
+    else-fits (sheetChecks ByRow plan sheet) (unusedVerdict ByRow (codeOf plan .n1) (codeOf plan .n2) sheet) (sheets-fit ByRow plan sheet)
+    (λ e. unused-fits ByRow (codeOf plan .n1) (codeOf plan .n2) sheet (sheet-bytes ByRow plan (sheet-zero ByRow plan sheet e .accepted .formed)))
 
 pub sums-fit : (plan sheet sums : List ℕ) → SmallVerdict (sumsChecks plan sheet sums)
 unfolding sumsChecks
@@ -136,7 +140,8 @@ unfolding scanLengths
 after-scans plan first second v f =
     let c = codeOf plan in
     else-fits (scanLengths plan first second) v
-    (else-fits (sheetChecks plan first) (sheetLength c second) (sheets-fit plan first) (λ _. length-fits 11 second (sheetBytes (c .n1) (c .n2)) (omega arith)))
+    (else-fits (sheetChecks ByRow plan first) (sheetLength ByRow c second) (sheets-fit ByRow plan first)
+    (λ _. length-fits 11 second (sheetBytes (c .n1) (c .n2)) (omega arith)))
     (λ e. f (scans-fit plan first second e .accepted .formed))
 
 two-checks-fit : (plan first second bits : List ℕ) → SmallVerdict (readTwoChecks plan first second bits)
@@ -146,8 +151,9 @@ two-checks-fit plan first second bits =
     after-scans plan first second _
     (λ F.
     else-fits (dataLength c bits) _ (length-fits 12 bits (rowBytes (dataSize c)) (omega arith))
-    (λ _. else-fits (unusedVerdict (c .n1) (c .n2) first) (unusedVerdict (c .n1) (c .n2) second) (unused-fits (c .n1) (c .n2) first (sheet-bytes plan F))
-    (λ _. unused-fits (c .n1) (c .n2) second (sheet-bytes plan F))))
+    (λ _. else-fits (unusedVerdict ByRow (c .n1) (c .n2) first) (unusedVerdict ByRow (c .n1) (c .n2) second)
+    (unused-fits ByRow (c .n1) (c .n2) first (sheet-bytes ByRow plan F))
+    (λ _. unused-fits ByRow (c .n1) (c .n2) second (sheet-bytes ByRow plan F))))
 
 -- checks 14 and 19
 decide-fits : (a b : Outcome) (bits : List ℕ) → SmallVerdict (decide a b bits .verdict)
@@ -180,17 +186,17 @@ found-fits : (r : Found) → SmallVerdict (foundVerdict r)
 found-fits (Burst top left x) = accepted-fits
 found-fits Nothing = record { number-fits = omega arith; p-fits = omega arith; q-fits = omega arith }
 
-pub read-fits : (plan sheet bits : List ℕ) → SmallVerdict (readOutcome plan sheet bits .verdict)
-unfolding readOutcome readVerdict
-read-fits plan sheet bits =
-    go (eqb (readVerdict plan sheet bits .number) 0)
-    (else-fits (readChecks plan sheet bits) (foundVerdict found) (reads-fit plan sheet bits) (λ _. found-fits found))
+pub read-fits : (lay : Layout) (plan sheet bits : List ℕ) → SmallVerdict (readIn lay plan sheet bits .verdict)
+unfolding readIn readVerdict
+read-fits lay plan sheet bits =
+    go (eqb (readVerdict lay plan sheet bits .number) 0)
+    (else-fits (readChecks lay plan sheet bits) (foundVerdict found) (reads-fit lay plan sheet bits) (λ _. found-fits found))
   where
     found : Found
-    found = burstIn (codeOf plan) sheet
+    found = burstIn lay (codeOf plan) sheet
 
-    go : (t : Bool) → SmallVerdict (readVerdict plan sheet bits)
-        → SmallVerdict (cond t (taken (codeOf plan) sheet) (refused (readVerdict plan sheet bits) sheet bits) .verdict)
+    go : (t : Bool) → SmallVerdict (readVerdict lay plan sheet bits)
+        → SmallVerdict (cond t (taken lay (codeOf plan) sheet) (refused (readVerdict lay plan sheet bits) sheet bits) .verdict)
     go true f = accepted-fits
     go false f = f
 
@@ -205,10 +211,10 @@ pub record FiveFit (r : Report) : Type 0 where
 none-fits : FiveFit (reportAs noReport)
 none-fits = record { cells-fits = omega arith; top-fits = omega arith; left-fits = omega arith; height-fits = omega arith; width-fits = omega arith }
 
-burst-fits : (c : Code) → Formed c → (sheet : List ℕ) → mendable c (cellOf (c .n2) sheet) ≡ true → FiveFit (reportRead c sheet)
+burst-fits : (lay : Layout) (c : Code) → Formed c → (sheet : List ℕ) → mendable c (cellIn lay (c .n1) (c .n2) sheet) ≡ true → FiveFit (reportRead lay c sheet)
 unfolding reportRead burstIn mendable change
-burst-fits c F sheet e =
-    let s = burst-report c F (change c (cellOf (c .n2) sheet)) (change-burst c F (cellOf (c .n2) sheet) e) in
+burst-fits lay c F sheet e =
+    let s = burst-report c F (change c (cellIn lay (c .n1) (c .n2) sheet)) (change-burst c F (cellIn lay (c .n1) (c .n2) sheet) e) in
     rw (first-report c _ _ e) record {
       cells-fits = omega (arith, s .cells-most);
       top-fits = omega (arith, s .top-on, F .n1-most);
@@ -217,15 +223,15 @@ burst-fits c F sheet e =
       width-fits = omega (arith, s .width-most, F .b2-most);
     }
 
-pub report-fits : (plan sheet bits : List ℕ) → FiveFit (readOutcome plan sheet bits .report)
-unfolding readOutcome
-report-fits plan sheet bits = go (eqb (readVerdict plan sheet bits .number) 0) refl
+pub report-fits : (lay : Layout) (plan sheet bits : List ℕ) → FiveFit (readIn lay plan sheet bits .report)
+unfolding readIn
+report-fits lay plan sheet bits = go (eqb (readVerdict lay plan sheet bits .number) 0) refl
   where
-    go : (t : Bool) → eqb (readVerdict plan sheet bits .number) 0 ≡ t
-        → FiveFit (cond t (taken (codeOf plan) sheet) (refused (readVerdict plan sheet bits) sheet bits) .report)
+    go : (t : Bool) → eqb (readVerdict lay plan sheet bits .number) 0 ≡ t
+        → FiveFit (cond t (taken lay (codeOf plan) sheet) (refused (readVerdict lay plan sheet bits) sheet bits) .report)
     go true e =
-        let z = zero-reads plan sheet bits (eqb-true (readVerdict plan sheet bits .number) 0 e) in
-        burst-fits (codeOf plan) (z .0 .lengths .accepted .formed) sheet (z .1)
+        let z = zero-reads lay plan sheet bits (eqb-true (readVerdict lay plan sheet bits .number) 0 e) in
+        burst-fits lay (codeOf plan) (z .0 .lengths .accepted .formed) sheet (z .1)
     go false e = none-fits
 
 -- ---- the fields of an answer
@@ -257,9 +263,9 @@ module _ (g : Parameters) (plan : List ℕ) {v : Verdict} {s : List ℕ} (e : ma
   unfolding makeCall
   made-packed = ap (λ (o : Made). makeReply (packed (verdictFields (o .verdict))) (o .plan)) e
 
-pub write-range : (plan bits sheet : List ℕ) → InRange (verdictFields (write plan bits sheet .verdict))
-unfolding write
-write-range plan bits sheet = fields-range (writeChecks plan bits sheet) (reportAs noReport) (write-fits plan bits sheet) none-fits
+pub write-range : (lay : Layout) (plan bits sheet : List ℕ) → InRange (verdictFields (writeIn lay plan bits sheet .verdict))
+unfolding writeIn
+write-range lay plan bits sheet = fields-range (writeChecks lay plan bits sheet) (reportAs noReport) (write-fits lay plan bits sheet) none-fits
 
 pub sums-range : (plan sheet : List ℕ) (first past : ℕ) (sums : List ℕ) → InRange (verdictFields (sumRun plan sheet first past sums .verdict))
 unfolding sumRun
@@ -277,11 +283,11 @@ pub stack-range : (plan stack numbers bits : List ℕ) → InRange (verdictField
 stack-range plan stack numbers bits =
     fields-range (readStack plan stack numbers bits .verdict) (reportAs noReport) (stack-fits plan stack numbers bits) none-fits
 
-pub read-range : (plan sheet bits : List ℕ)
-    → InRange (reportFields (readOutcome plan sheet bits .verdict) (readOutcome plan sheet bits .report))
-read-range plan sheet bits =
-    let o = readOutcome plan sheet bits in
-    fields-range (o .verdict) (o .report) (read-fits plan sheet bits) (report-fits plan sheet bits)
+pub read-range : (lay : Layout) (plan sheet bits : List ℕ)
+    → InRange (reportFields (readIn lay plan sheet bits .verdict) (readIn lay plan sheet bits .report))
+read-range lay plan sheet bits =
+    let o = readIn lay plan sheet bits in
+    fields-range (o .verdict) (o .report) (read-fits lay plan sheet bits) (report-fits lay plan sheet bits)
 
 pub record PartFits (p : Part) : Type 0 where
   pub ordered : p .start ≤ p .end

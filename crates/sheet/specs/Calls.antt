@@ -5,8 +5,8 @@
 --   planAnswer      the answer of the test of a plan: checks 1 to 10 in order, the first that fails, packed
 --   parameters      the eight numbers that the maker is given: v and h are the coefficients below the degrees rv and rh
 --   MakeReply, makeCall     the answer of making a plan, packed, and every byte of the plan after it
---   WriteReply, writeCall   the answer of writing, packed, and every byte of the sheet after it
---   ReadReply, readCall     the answer of reading, packed, and every byte of the sheet and of the data buffer after it
+--   WriteReply, writeCall   the answer of writing in a layout, packed, and every byte of the sheet after it
+--   ReadReply, readCall     the answer of reading in a layout, packed, and every byte of the sheet and of the data buffer after it
 --   SumsReply, sumsCall     the answer of asking for the sums of a run of rows, packed, and every byte of their buffer after it
 --   AlterReply, alterCall   the answer of altering one data bit, packed, and every byte of the sheet after it
 --   ReadTwoReply, readTwoCall   the answer of reading two scans, packed, and every byte of the data buffer after it
@@ -14,14 +14,15 @@
 --   ReadStackReply, readStackCall   the answer of reading a stack, packed, and every byte of the stack, the numbers and the data buffer after it
 use Prim.Native.Nat.{ℕ, _-_}
 use mathlib.Core.List.{List}
+use Rattle.layout.specs.declared.stored.Layout.{Layout}
 use Rattle.answer.specs.Answer.{Fields, placesFields, packed, packedPart}
 use Rattle.plan.specs.declared.verdict.Verdict.{Verdict}
 use Rattle.mend.specs.declared.report.Report.{Report}
 use Rattle.accept.specs.Verdict.{planVerdict}
 use Rattle.maker.specs.declared.parameters.Parameters.{Parameters}
 use Rattle.maker.specs.Make.{make}
-use Rattle.writer.specs.Write.{write}
-use Rattle.reader.specs.Read.{readOutcome}
+use Rattle.writer.specs.Write.{writeIn}
+use Rattle.reader.specs.Read.{readIn}
 use Rattle.runsums.specs.RunSums.{sumRun}
 use Rattle.alter.specs.Alter.{alter}
 use Rattle.scans.specs.ReadTwo.{readTwo}
@@ -62,9 +63,9 @@ pub record WriteReply : Type 0 where
   pub answer : ℕ
   pub sheet : List ℕ
 
-unfoldable pub writeCall : List ℕ → List ℕ → List ℕ → WriteReply
-writeCall plan bits sheet =
-    let o = write plan bits sheet in
+unfoldable pub writeCall : Layout → (plan bits sheet : List ℕ) → WriteReply
+writeCall lay plan bits sheet =
+    let o = writeIn lay plan bits sheet in
     record { answer = packed (verdictFields (o .verdict)); sheet = o .sheet }
 
 pub record ReadReply : Type 0 where
@@ -72,9 +73,9 @@ pub record ReadReply : Type 0 where
   pub sheet : List ℕ
   pub bits : List ℕ
 
-unfoldable pub readCall : List ℕ → List ℕ → List ℕ → ReadReply
-readCall plan sheet bits =
-    let o = readOutcome plan sheet bits in
+unfoldable pub readCall : Layout → (plan sheet bits : List ℕ) → ReadReply
+readCall lay plan sheet bits =
+    let o = readIn lay plan sheet bits in
     record { answer = packed (reportFields (o .verdict) (o .report)); sheet = o .sheet; bits = o .bits }
 
 pub record SumsReply : Type 0 where

@@ -1,6 +1,7 @@
 // The calls for C (include/sheet.h). Each takes whatever it is handed, and answers one 64-bit number (docs/ANSWER.md).
 // A call that turns something back changes no byte of any buffer. The data buffer is called bits here.
 ghost use mathlib.Core.Path.{_≡_};
+ghost use Rattle.layout.specs.declared.stored.Layout.the-variants.{ByRow};
 ghost use Rattle.houseplan.specs.HousePlan.{houseParameters};
 ghost use Rattle.sheet.specs.Calls.{planAnswer, parameters, makeReply, makeCall, writeReply, writeCall, readReply, readCall};
 ghost use Rattle.sheet.specs.Calls.{sumsReply, sumsCall, alterReply, alterCall, readTwoReply, readTwoCall, differenceAnswer};
@@ -14,6 +15,7 @@ use answer::pack_part;
 use answer::pack_places;
 use difference::differing_part;
 use houseplan::make_house;
+use layout::stored::Layout;
 use maker::making::make;
 use maker::parameters::Parameters;
 use reader::read::read;
@@ -73,18 +75,18 @@ pub extern "C" fn sheet_house_plan(plan: &mut [u8]) -> u64
 // Writes the sheet that carries the data: every byte of it, whatever it held.
 #[no_mangle]
 pub extern "C" fn sheet_write(plan: &[u8], bits: &[u8], sheet: &mut [u8]) -> u64
-    ensures { λ r. ⌜ writeReply r (now (sheet .exit)) ≡ writeCall (now (plan .entry)) (now (bits .entry)) (now (sheet .entry)) ⌝ }
+    ensures { λ r. ⌜ writeReply r (now (sheet .exit)) ≡ writeCall ByRow (now (plan .entry)) (now (bits .entry)) (now (sheet .entry)) ⌝ }
 {
-    let wrote = write(plan, bits, sheet);
+    let wrote = write(Layout::ByRow, plan, bits, sheet);
     pack_places(wrote.number, wrote.p, wrote.q)
 }
 
 // Reads a sheet: mends it in place, writes its data, and tells which cells were turned over.
 #[no_mangle]
 pub extern "C" fn sheet_read(plan: &[u8], sheet: &mut [u8], bits: &mut [u8]) -> u64
-    ensures { λ r. ⌜ readReply r (now (sheet .exit)) (now (bits .exit)) ≡ readCall (now (plan .entry)) (now (sheet .entry)) (now (bits .entry)) ⌝ }
+    ensures { λ r. ⌜ readReply r (now (sheet .exit)) (now (bits .exit)) ≡ readCall ByRow (now (plan .entry)) (now (sheet .entry)) (now (bits .entry)) ⌝ }
 {
-    let a = read(plan, sheet, bits);
+    let a = read(Layout::ByRow, plan, sheet, bits);
     let v = a.verdict;
     let r = a.report;
     pack(Answer {

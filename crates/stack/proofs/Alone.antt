@@ -7,6 +7,7 @@
 use mathlib.Core.Path.{refl}
 use mathlib.Core.List.{List}
 use Prim.Native.Nat.{ℕ, _*_, _<_}
+use Rattle.layout.specs.declared.stored.Layout.the-variants.{ByRow}
 use Rattle.stackform.specs.Stack.{sheetCount, sheetPlace}
 use Rattle.stackform.proofs.Parts.{part-length}
 use Rattle.plan.specs.Bytes.{codeOf}
@@ -17,7 +18,7 @@ use Rattle.stack.proofs.Passing.{StackFits, sized}
 use Rattle.stack.proofs.Steps.{sheet-inside, bits-inside}
 
 module _ (plan stack numbers bits : List ℕ) (F : StackFits plan stack numbers bits) (i : ℕ) (l : i < sheetCount stack) where
-  pub alone-lengths : Lengths plan (sheetAt (codeOf plan) stack i) (bitsAt (codeOf plan) bits i)
+  pub alone-lengths : Lengths ByRow plan (sheetAt (codeOf plan) stack i) (bitsAt (codeOf plan) bits i)
   alone-lengths =
       let c = codeOf plan in
       let n = sheetCount stack in
@@ -29,4 +30,4 @@ module _ (plan stack numbers bits : List ℕ) (F : StackFits plan stack numbers 
 
   pub alone-told : OneOf (readAlone plan stack bits i .verdict .number)
   unfolding readAlone
-  alone-told = read-told plan (sheetAt (codeOf plan) stack i) (bitsAt (codeOf plan) bits i) alone-lengths
+  alone-told = read-told ByRow plan (sheetAt (codeOf plan) stack i) (bitsAt (codeOf plan) bits i) alone-lengths

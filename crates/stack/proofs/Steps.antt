@@ -15,6 +15,7 @@ use native.Mathlib.Nat.{zero-add, suc-mul, mul-le-mul-right}
 use native.Mathlib.Omega.{arith}
 use lib.ListN.{length, take}
 use Rattle.layout.specs.Joined.{joined}
+use Rattle.layout.specs.declared.stored.Layout.the-variants.{ByRow}
 use Rattle.stackform.specs.Stack.{sheetCount, headerEnd, sheetPlace}
 use Rattle.stackform.specs.Parts.{part, replaced, laid}
 use Rattle.stackform.proofs.Parts.{part-length, laid-none, laid-length, laid-part, laid-next, laid-all}
@@ -63,12 +64,12 @@ module _ (plan : List ℕ) (c : Code) (is : c ≡ codeOf plan) (n : ℕ) (b : Le
   pub read-sheet : (i : ℕ) → i < n → length (read i .sheet) ≡ sheetSize c
   read-sheet i l =
       let e = ap (λ (d : Code). sheetSize d) is in
-      sheet-length plan _ _ (part-length (b .stack) (sheetPlace (sheetSize c) n i) (sheetSize c) (sheet-inside i l) ∙ e) ∙ sym e
+      sheet-length ByRow plan _ _ (part-length (b .stack) (sheetPlace (sheetSize c) n i) (sheetSize c) (sheet-inside i l) ∙ e) ∙ sym e
 
   pub read-bits : (i : ℕ) → i < n → length (read i .bits) ≡ dataBytes c
   read-bits i l =
       let e = ap (λ (d : Code). dataBytes d) is in
-      bits-length plan _ _ (part-length (b .bits) (i * dataBytes c) (dataBytes c) (bits-inside i l) ∙ e) ∙ sym e
+      bits-length ByRow plan _ _ (part-length (b .bits) (i * dataBytes c) (dataBytes c) (bits-inside i l) ∙ e) ∙ sym e
 
   pub partly-none : b ≡ partly plan c n 0 b
   unfolding partly

@@ -13,6 +13,7 @@ use accept::test::test;
 use buffers::lent::data_lengths;
 use buffers::lent::numbers_length;
 use buffers::lent::sheet_bytes;
+use layout::stored::Layout;
 use plan::entry::header_of;
 use plan::header::Header;
 use plan::verdict::Verdict;
@@ -26,7 +27,7 @@ fn stack_form(plan: &[u8], h: Header, stack: &[u8]) -> Verdict
     requires { ⌜ AcceptedWith (now plan) h ⌝ }
     ensures { λ r. ⌜ r ≡ stackForm (codeWith (now (plan .entry)) h) (now (stack .entry)) ⌝ }
 {
-    refuse_if(broken(stack, sheet_bytes(h)), 20, 0, 0)
+    refuse_if(broken(stack, sheet_bytes(Layout::ByRow, h)), 20, 0, 0)
 }
 
 // Checks 21 and 12, of a stack of so many sheets.

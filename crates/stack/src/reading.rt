@@ -15,6 +15,7 @@ use buffers::lent::NUMBERS_SIZE;
 use buffers::lent::data_bytes;
 use buffers::lent::sheet_bytes;
 use layout::number::put_u16;
+use layout::stored::Layout;
 use plan::entry::header_of;
 use plan::header::Header;
 use plan::verdict::Verdict;
@@ -57,7 +58,7 @@ fn read_sheet(
     ensures { λ _. ⌜ lent (now (sheet .exit)) (now (numbers .exit)) (now (bits .exit))
         ≡ readLeft (readOutcome (now (plan .entry)) (now (sheet .entry)) (now (bits .entry))) ⌝ }
 {
-    let answer = read_lent(plan, h, columns, sheet, bits);
+    let answer = read_lent(Layout::ByRow, plan, h, columns, sheet, bits);
     put_numbers(answer, numbers);
 }
 
@@ -80,7 +81,7 @@ fn read_at(
         ≡ stepped (now (plan .entry)) (codeWith (now (plan .entry)) h) count i
         (lent (now (stack .entry)) (now (numbers .entry)) (now (bits .entry))) ⌝ }
 {
-    let size = sheet_bytes(h);
+    let size = sheet_bytes(Layout::ByRow, h);
     let start = place(size, count, i);
     let end = start + size;
     let first = i * NUMBERS_SIZE;

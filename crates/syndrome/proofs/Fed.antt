@@ -4,7 +4,7 @@
 --   fed-after   the rows from number k on are those after number k - 1
 --   fed-row     row number k is fed after those from k + 1 on
 --   fed-all     when row number 0 is fed, the sums are those of the run
---   SheetSums, sheet-sums   the run from 0 to n1 has the two sums of the sheet
+--   sheet-sums  the run from 0 to n1 has the two sums of the sheet
 --
 -- Assumes nothing.
 use mathlib.Core.Path.{_≡_, sym, ap, ap₂, _∙_}
@@ -16,12 +16,12 @@ use Rattle.gf2.specs.Sum.{runSum}
 use Rattle.gf2.proofs.Xor.{xor-is, xor-comm, xor-below}
 use Rattle.gf2.proofs.RunSum.{run-sum-empty, run-sum-before}
 use Rattle.boxcode.specs.Code.{Code, rowWeight, columnWeight}
-use Rattle.boxcode.specs.Syndrome.{Cells, rowSyndrome, columnSyndrome}
+use Rattle.boxcode.specs.Syndrome.{Cells}
 use Rattle.boxcode.specs.Run.{rowSum, rowSyndromeIn, columnSyndromeIn}
 use Rattle.boxcode.proofs.Run.{row-whole, column-whole}
 use Rattle.syndrome.specs.declared.run.Run.{Run}
 use Rattle.syndrome.specs.declared.sums.Sums.{Sums}
-use Rattle.syndrome.specs.Gather.{TwoSums, RowSums, runRows, Fed, RunSums}
+use Rattle.syndrome.specs.Gather.{RowSums, runRows, Fed, SheetSums, RunSums}
 
 -- one of the two sums: row i is added to what is held, those behind it up to row b
 added : (n : ℕ) (f : ℕ → ℕ) (i b x y : ℕ) → i < n → i < b → x ≡ runSum n f (i + 1) b → y ≡ f i → bitXor x y ≡ runSum n f i b
@@ -66,10 +66,7 @@ module _ (c : Code) (s : Cells) where
   pub fed-all : (run : Run) (r : Sums) → Fed c s run 0 r → RunSums c s (run .first) (run .past) r
   fed-all run r F = let e : run .first + 0 ≡ run .first = omega arith in rw e at F
 
-  abbrev pub SheetSums : Sums → Type 0
-  SheetSums r = TwoSums (rowSyndrome c s) (columnSyndrome c s) r
-
-  pub sheet-sums : (r : Sums) → RunSums c s 0 (c .n1) r → SheetSums r
+  pub sheet-sums : (r : Sums) → RunSums c s 0 (c .n1) r → SheetSums c s r
   sheet-sums r R = record {
     row = R .row ∙ row-whole c s;
     column = R .column ∙ column-whole c s;

@@ -2,3 +2,4 @@
 pub mod Part
 pub mod Line
 pub mod Fed
+pub mod Block

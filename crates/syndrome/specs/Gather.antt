@@ -7,6 +7,7 @@
 --   TwoSums v h r        r has the sums v and h, which have at most 32 bits
 --   ByteSums .. r        r has the two sums of the cells from column j on that stand in the byte x
 --   RowSums c s i r      r has the two sums of row i of the sheet s
+--   SheetSums c s r      r has the two sums of the sheet s
 --   RunSums c s a b r    r has the two sums of the rows from a up to but not including b
 --   runRows n1 run       how many rows of a run are on a sheet of n1 rows
 --   Fed c s run k r      r has the two sums of the rows fed so far, those from row number k of the run on (02 b)
@@ -17,7 +18,7 @@ use lib.ListN.{length, getD}
 use Rattle.finite.specs.Search.{bit}
 use Rattle.gf2.specs.Sum.{chosenSum}
 use Rattle.boxcode.specs.Code.{Code, rowWeight, columnWeight}
-use Rattle.boxcode.specs.Syndrome.{Cells}
+use Rattle.boxcode.specs.Syndrome.{Cells, rowSyndrome, columnSyndrome}
 use Rattle.boxcode.specs.Run.{rowSum, rowSyndromeIn, columnSyndromeIn}
 use Rattle.syndrome.specs.declared.run.Run.{Run}
 use Rattle.syndrome.specs.declared.sums.Sums.{Sums}
@@ -60,6 +61,9 @@ ByteSums n2 b1 b2 q rows columns x j r =
 
 abbrev pub RowSums : Code → Cells → ℕ → Sums → Type 0
 RowSums c s i r = TwoSums (rowSum (c .n2) (rowWeight c) s i) (rowSum (c .n2) (columnWeight c) s i) r
+
+abbrev pub SheetSums : Code → Cells → Sums → Type 0
+SheetSums c s r = TwoSums (rowSyndrome c s) (columnSyndrome c s) r
 
 abbrev pub RunSums : Code → Cells → ℕ → ℕ → Sums → Type 0
 RunSums c s a b r = TwoSums (rowSyndromeIn c a b s) (columnSyndromeIn c a b s) r

@@ -32,8 +32,8 @@ fn row_words(plan: &[u8], h: Header, i: usize) -> [u64; 4]
     words
 }
 
-// The sums of the cells from column j on that stand in the byte x.
-fn byte_sums(
+// The sums of the cells from column j on that stand in the byte x. On a sheet that is stored by columns, rows and columns change places.
+pub fn byte_sums(
     x: u8,
     j: usize,
     n2: usize,

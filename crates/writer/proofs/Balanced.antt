@@ -18,9 +18,9 @@ use lib.ListN.{length}
 use Rattle.finite.specs.Search.{bit}
 use Rattle.finite.proofs.Truth.{clash, not-true, same-truth, and-true, and-false, xor-none, xor-light, xor-back, xor-assoc, xor-comm, both-equal, equal-both}
 use Rattle.gf2.specs.Sum.{chosenSum}
-use Rattle.layout.specs.Cells.{cellOf, RightForm, bytesOf, turnedIf}
-use Rattle.layout.proofs.Form.{same-bytes, bytes-form, bytes-cell, bytes-equal}
-use Rattle.layout.proofs.Turned.{turned-if-form, turned-if-cell, turned-if-length}
+use Rattle.layout.specs.Stored.{cellIn, FormIn, bytesIn, turnedIn}
+use Rattle.layout.specs.declared.stored.Layout.{Layout}
+use Rattle.layout.proofs.Layouts.{laws, in-equal, in-turned-form, in-turned-cell, in-turned-length}
 use Rattle.boxcode.specs.Code.{Code, Formed, cellNumber, checkJoint}
 use Rattle.boxcode.specs.Condition.{Conditions}
 use Rattle.boxcode.specs.Syndrome.{Cells, Belongs}
@@ -31,19 +31,20 @@ use Rattle.boxcode.proofs.Written.{balanced}
 use Rattle.boxcode.proofs.Theorems.{written-only, written-same}
 use Rattle.writer.specs.Steps.{JointSum, turnedTo}
 
-pub turned-none : (c : Code) (y : ℕ) (s : List ℕ) → s ≡ turnedTo c y 0 s
+pub turned-none : (lay : Layout) (c : Code) (y : ℕ) (s : List ℕ) → s ≡ turnedTo lay c y 0 s
 unfolding turnedTo
-turned-none c y s = refl
+turned-none lay c y s = refl
 
-pub turned-next : (c : Code) (y n : ℕ) (s old new : List ℕ) → old ≡ turnedTo c y n s
-    → new ≡ turnedIf (bit y n) (c .n2) old (c .checkRow n) (c .checkColumn n) → new ≡ turnedTo c y (n + 1) s
-turned-next c y n s old new e f = f ∙ rw (add-one n) (unfold turnedTo in ap (λ (l : List ℕ). turnedIf (bit y n) (c .n2) l (c .checkRow n) (c .checkColumn n)) e)
+pub turned-next : (lay : Layout) (c : Code) (y n : ℕ) (s old new : List ℕ) → old ≡ turnedTo lay c y n s
+    → new ≡ turnedIn (bit y n) lay (c .n1) (c .n2) old (c .checkRow n) (c .checkColumn n) → new ≡ turnedTo lay c y (n + 1) s
+turned-next lay c y n s old new e f =
+    f ∙ rw (add-one n) (unfold turnedTo in ap (λ (l : List ℕ). turnedIn (bit y n) lay (c .n1) (c .n2) l (c .checkRow n) (c .checkColumn n)) e)
 
-pub turned-size : (c : Code) (y n : ℕ) (s : List ℕ) → length (turnedTo c y n s) ≡ length s
+pub turned-size : (lay : Layout) (c : Code) (y n : ℕ) (s : List ℕ) → length (turnedTo lay c y n s) ≡ length s
 unfolding turnedTo
-turned-size c y zero s = refl
-turned-size c y (suc n) s =
-    turned-if-length (bit y n) (c .n2) (turnedTo c y n s) (c .checkRow n) (c .checkColumn n) ∙ turned-size c y n s
+turned-size lay c y zero s = refl
+turned-size lay c y (suc n) s =
+    in-turned-length (bit y n) lay (c .n1) (c .n2) (turnedTo lay c y n s) (c .checkRow n) (c .checkColumn n) ∙ turned-size lay c y n s
 
 -- digit n is added to the digits below n
 digit-more : (n j y : ℕ) → xor (ltb j n && bit y j) (bit y n && eqb n j) ≡ (ltb j (suc n) && bit y j)
@@ -62,7 +63,7 @@ digit-more n j y = go (ℕ-discrete j n)
         ∙ ap (xor (ltb j (suc n) && bit y j)) (and-false (bit y n))
         ∙ xor-none (ltb j (suc n) && bit y j)
 
-module _ (c : Code) (F : Formed c) where
+module _ (lay : Layout) (c : Code) (F : Formed c) where
   -- check cells are one cell where they are one in the list
   same-check : (k j : ℕ) → k < c .rv + c .rh → j < c .rv + c .rh → (eqb (c .checkRow k) (c .checkRow j) && eqb (c .checkColumn k) (c .checkColumn j)) ≡ eqb k j
   same-check k j lk lj =
@@ -86,17 +87,17 @@ module _ (c : Code) (F : Formed c) where
 
   -- the cells of a sheet
   abbrev cells : List ℕ → Cells
-  cells s = cellOf (c .n2) s
+  cells s = cellIn lay (c .n1) (c .n2) s
 
   -- so the data is kept where a check cell is turned over
-  data-kept : (t : Bool) (k : ℕ) (s : List ℕ) → RightForm (c .n1) (c .n2) s → k < c .rv + c .rh
-      → SameData c (cells (turnedIf t (c .n2) s (c .checkRow k) (c .checkColumn k))) (cells s)
+  data-kept : (t : Bool) (k : ℕ) (s : List ℕ) → FormIn lay (c .n1) (c .n2) s → k < c .rv + c .rh
+      → SameData c (cells (turnedIn t lay (c .n1) (c .n2) s (c .checkRow k) (c .checkColumn k))) (cells s)
   unfolding dataOf
   data-kept t k s f lk d ld =
       let a = dataCell c d / c .n2 in
       let b = dataCell c d % c .n2 in
       let l = data-below c F d ld in
-      turned-if-cell (c .n1) (c .n2) s f (c .checkRow k) (c .checkColumn k) (F .check-rows k lk) (F .check-columns k lk) t a b
+      in-turned-cell lay (c .n1) (c .n2) s f (c .checkRow k) (c .checkColumn k) (F .check-rows k lk) (F .check-columns k lk) t a b
       (row-inside c (dataCell c d) l) (column-inside c (dataCell c d) l)
       ∙ ap (λ (e : Bool). xor (cells s a b) (t && e)) (no-data k d lk ld)
       ∙ ap (xor (cells s a b)) (and-false t)
@@ -106,11 +107,11 @@ module _ (c : Code) (F : Formed c) where
 
   -- what is left of the sheet s: its data, and its check cells turned over
   record TurnedAs (y n : ℕ) (s s' : List ℕ) : Type 0 where
-    form : RightForm (c .n1) (c .n2) s'
+    form : FormIn lay (c .n1) (c .n2) s'
     same : SameData c (cells s') (cells s)
     checks : (k : ℕ) → k < c .rv + c .rh → checkCell c (cells s') k ≡ xor (checkCell c (cells s) k) (ltb k n && bit y k)
 
-  turned-as : (y n : ℕ) (s : List ℕ) → RightForm (c .n1) (c .n2) s → n ≤ c .rv + c .rh → TurnedAs y n s (turnedTo c y n s)
+  turned-as : (y n : ℕ) (s : List ℕ) → FormIn lay (c .n1) (c .n2) s → n ≤ c .rv + c .rh → TurnedAs y n s (turnedTo lay c y n s)
   unfolding turnedTo
   turned-as y zero s f l = record {
     form = f;
@@ -122,14 +123,14 @@ module _ (c : Code) (F : Formed c) where
   turned-as y (suc n) s f l = go (turned-as y n s f (omega arith))
     where
       u : List ℕ
-      u = turnedTo c y n s
+      u = turnedTo lay c y n s
 
-      go : TurnedAs y n s u → TurnedAs y (suc n) s (turnedIf (bit y n) (c .n2) u (c .checkRow n) (c .checkColumn n))
+      go : TurnedAs y n s u → TurnedAs y (suc n) s (turnedIn (bit y n) lay (c .n1) (c .n2) u (c .checkRow n) (c .checkColumn n))
       go T = record {
-        form = turned-if-form (c .n1) (c .n2) u (T .form) (c .checkRow n) (c .checkColumn n) (F .check-rows n l) (F .check-columns n l) (bit y n);
+        form = in-turned-form lay (c .n1) (c .n2) u (T .form) (c .checkRow n) (c .checkColumn n) (F .check-rows n l) (F .check-columns n l) (bit y n);
         same = λ d ld. data-kept (bit y n) n u (T .form) l d ld ∙ T .same d ld;
         checks = λ k lk.
-            turned-if-cell (c .n1) (c .n2) u (T .form) (c .checkRow n) (c .checkColumn n) (F .check-rows n l) (F .check-columns n l) (bit y n)
+            in-turned-cell lay (c .n1) (c .n2) u (T .form) (c .checkRow n) (c .checkColumn n) (F .check-rows n l) (F .check-columns n l) (bit y n)
             (c .checkRow k) (c .checkColumn k) (F .check-rows k lk) (F .check-columns k lk)
             ∙ ap₂ (λ (a b : Bool). xor a (bit y n && b)) (T .checks k lk) (same-check n k l lk)
             ∙ xor-assoc (checkCell c (cells s) k) (ltb k n && bit y k) (bit y n && eqb n k)
@@ -139,17 +140,17 @@ module _ (c : Code) (F : Formed c) where
   -- ---- digits whose check cells sum to the joint sum of the sheet
 
   module _ (K : Conditions c) where
-    pub turned-written : (sum y : ℕ) (s s' : List ℕ) → RightForm (c .n1) (c .n2) s → JointSum c (cells s) sum
-        → chosenSum (c .rv + c .rh) (bit y) (checkJoint c) ≡ sum → s' ≡ turnedTo c y (c .rv + c .rh) s
-        → s' ≡ bytesOf (c .n1) (c .n2) (written c (dataOf c (cells s)))
+    pub turned-written : (sum y : ℕ) (s s' : List ℕ) → FormIn lay (c .n1) (c .n2) s → JointSum c (cells s) sum
+        → chosenSum (c .rv + c .rh) (bit y) (checkJoint c) ≡ sum → s' ≡ turnedTo lay c y (c .rv + c .rh) s
+        → s' ≡ bytesIn lay (c .n1) (c .n2) (written c (dataOf c (cells s)))
     turned-written sum y s s' f J made turn =
         turn
-        ∙ same-bytes (c .n1) (c .n2) u (bytesOf (c .n1) (c .n2) w) (T .form) (bytes-form (c .n1) (c .n2) w)
+        ∙ laws lay (c .n1) (c .n2) .same u (bytesIn lay (c .n1) (c .n2) w) (T .form) (laws lay (c .n1) (c .n2) .form w)
         (λ i j li lj.
-        written-only c F K (dataOf c (cells s)) (cells u) belongs (T .same) i j li lj ∙ sym (bytes-cell (c .n1) (c .n2) w i j li lj))
+        written-only c F K (dataOf c (cells s)) (cells u) belongs (T .same) i j li lj ∙ sym (laws lay (c .n1) (c .n2) .cell w i j li lj))
       where
         u : List ℕ
-        u = turnedTo c y (c .rv + c .rh) s
+        u = turnedTo lay c y (c .rv + c .rh) s
 
         w : Cells
         w = written c (dataOf c (cells s))
@@ -168,11 +169,11 @@ module _ (c : Code) (F : Formed c) where
         belongs = balanced c F (cells s) (cells u) y (T .same) turned (made ∙ J .value)
 
     -- so the sheet that holds the data, with light check cells, becomes the written sheet
-    pub filled-written : (x : Bits) (s s' : List ℕ) → s ≡ bytesOf (c .n1) (c .n2) (fill c x 0)
-        → s' ≡ bytesOf (c .n1) (c .n2) (written c (dataOf c (cells s))) → s' ≡ bytesOf (c .n1) (c .n2) (written c x)
+    pub filled-written : (x : Bits) (s s' : List ℕ) → s ≡ bytesIn lay (c .n1) (c .n2) (fill c x 0)
+        → s' ≡ bytesIn lay (c .n1) (c .n2) (written c (dataOf c (cells s))) → s' ≡ bytesIn lay (c .n1) (c .n2) (written c x)
     filled-written x s s' put done =
         done
-        ∙ bytes-equal (c .n1) (c .n2) (written c (dataOf c (cells s))) (written c x)
+        ∙ in-equal lay (c .n1) (c .n2) (written c (dataOf c (cells s))) (written c x)
         (written-same c F K (dataOf c (cells s)) x
-        (λ d l. rw put (data-cells c F (cells (bytesOf (c .n1) (c .n2) (fill c x 0))) (fill c x 0) (bytes-cell (c .n1) (c .n2) (fill c x 0)) d l
+        (λ d l. rw put (data-cells c F (cells (bytesIn lay (c .n1) (c .n2) (fill c x 0))) (fill c x 0) (laws lay (c .n1) (c .n2) .cell (fill c x 0)) d l
         ∙ data-fill c F x 0 d l)))

@@ -4,7 +4,7 @@ ghost use Prim.Native.Nat.{_+_, _^_, _<_};
 ghost use lib.ListN.{length};
 ghost use Rattle.finite.specs.Search.{bit};
 ghost use Rattle.gf2.specs.Sum.{chosenSum};
-ghost use Rattle.layout.specs.Cells.{sheetBytes, cellOf};
+ghost use Rattle.layout.specs.Stored.{sizeIn, cellIn};
 ghost use Rattle.boxcode.specs.Code.{Formed, checkJoint};
 ghost use Rattle.boxcode.specs.Condition.{Conditions};
 ghost use Rattle.plan.specs.Header.{Framed};
@@ -15,23 +15,19 @@ use accept::checks::check_joints;
 use accept::checks::joined;
 use gf2::Solution;
 use gf2::find_combination;
+use layout::stored::Layout;
 use plan::header::Header;
-use syndrome::gather::sums;
-use syndrome::run::Run;
+use syndrome::whole::sheet_sums;
 
 // The joint sum of a sheet: its V sum and its H sum, joined.
-pub fn joint_sum(sheet: &[u8], plan: &[u8], h: Header, columns: &[u64]) -> u64
+pub fn joint_sum(lay: Layout, sheet: &[u8], plan: &[u8], h: Header, columns: &[u64]) -> u64
     requires { ⌜ Framed (now plan) h ⌝ }
     requires { ⌜ Formed (codeWith (now plan) h) ⌝ }
     requires { ⌜ Unpacked (now plan) h (now columns) ⌝ }
-    requires { ⌜ length (now sheet) ≡ sheetBytes (h .n1) (h .n2) ⌝ }
-    ensures { λ r. ⌜ JointSum (codeWith (now (plan .entry)) h) (cellOf (h .n2) (now (sheet .entry))) r ⌝ }
+    requires { ⌜ length (now sheet) ≡ sizeIn lay (h .n1) (h .n2) ⌝ }
+    ensures { λ r. ⌜ JointSum (codeWith (now (plan .entry)) h) (cellIn lay (h .n1) (h .n2) (now (sheet .entry))) r ⌝ }
 {
-    let whole = Run {
-        first: 0,
-        past: h.n1,
-    };
-    let s = sums(sheet, plan, h, columns, whole);
+    let s = sheet_sums(lay, sheet, plan, h, columns);
     joined(h.rv, s.row, s.column)
 }
 

@@ -1,6 +1,7 @@
 -- `sheet::sheet_read` meets its contract: the reader's outcome, its numbers packed. Assumes nothing.
 use mathlib.Core.Path.{ap}
 use native.Mathlib.Omega.{arith}
+use Rattle.layout.specs.declared.stored.Layout.the-variants.{ByRow}
 use Rattle.answer.specs.Answer.{InRange, packed}
 use Rattle.reader.specs.Read.{Outcome}
 use Rattle.sheet.specs.Calls.{reportFields, readReply, readCall}
@@ -18,7 +19,7 @@ pack-requires c κs =
     let s = b .before .before .before .before .before .before .args in
     let r = b .read .result in
     let f : InRange (reportFields (r .verdict) (r .report)) =
-    rw (ap (λ (o : Outcome). reportFields (o .verdict) (o .report)) (b .read .ensures)) (read-range (s .plan .now) (s .sheet .now) (s .bits .now)) in
+    rw (ap (λ (o : Outcome). reportFields (o .verdict) (o .report)) (b .read .ensures)) (read-range ByRow (s .plan .now) (s .sheet .now) (s .bits .now)) in
     omega arith
 
 same-length : tie.Need-same-length

@@ -1,6 +1,7 @@
 -- `sheet::sheet_write` meets its contract: the writer's outcome, its number and places packed. Assumes nothing.
 use mathlib.Core.Path.{ap}
 use native.Mathlib.Omega.{arith}
+use Rattle.layout.specs.declared.stored.Layout.the-variants.{ByRow}
 use Rattle.answer.specs.Answer.{InRange, packed}
 use Rattle.writer.specs.Write.{Wrote}
 use Rattle.sheet.specs.Calls.{verdictFields, writeReply, writeCall}
@@ -17,7 +18,7 @@ pack-places-requires c κs =
     let s = c .before .before .before .before .before .before .before .args in
     let w = c .before .before .write in
     let f : InRange (verdictFields (w .result)) =
-    rw (ap (λ (o : Wrote). verdictFields (o .verdict)) (w .ensures)) (write-range (s .plan .now) (s .bits .now) (s .sheet .now)) in
+    rw (ap (λ (o : Wrote). verdictFields (o .verdict)) (w .ensures)) (write-range ByRow (s .plan .now) (s .bits .now) (s .sheet .now)) in
     omega arith
 
 same-length : tie.Need-same-length

@@ -4,7 +4,7 @@ use native.Mathlib.Omega.{arith}
 use Rattle.plan.specs.declared.verdict.Verdict.{Verdict}
 use Rattle.plan.specs.Bytes.{codeOf}
 use Rattle.accept.proofs.Acceptance.{accepted-with}
-use Rattle.writer.specs.Write.{writtenBytes}
+use Rattle.writer.specs.Write.{writtenIn}
 use Rattle.alter.specs.Alter.{alterChecks, alteredBytes, altered}
 use Rattle.alter.proofs.Passing.{MayAlter, alter-zero, alter-refused, alter-done}
 use borrow.Author.Needs.{needs}
@@ -51,7 +51,7 @@ same-length-2 c = search needs
 -- the sheet after, by the bytes of the plan and of the sheet alone
 whole : (c : tie.After-alter-sheet) → let a = given (c .before .before .before) .args in
     c .alter-sheet .last .1 .1 .1 .0 ≡ alteredBytes (a .plan .now) (a .sheet .now) (a .position)
-unfolding alteredBytes writtenBytes codeOf
+unfolding alteredBytes writtenIn codeOf
 whole c = rw (c .before .before .header-of .ensures) at (c .alter-sheet .ensures)
 
 returns-2 : tie.Need-returns-2

@@ -1,6 +1,7 @@
 -- `buffers::call::form_checks` meets its contract: unused bits are looked for in a sheet of the right length. Assumes nothing.
 use mathlib.Core.Path.{_∙_}
 use native.Mathlib.Omega.{arith}
+use Rattle.layout.specs.declared.stored.Layout.the-variants.{ByRow}
 use Rattle.plan.specs.Bytes.{codeOf}
 use Rattle.buffers.specs.Buffers.{formChecks}
 use Rattle.buffers.proofs.Passing.{SheetFits, sheet-zero, checked-passes, checked-stops, checked-goes-on}
@@ -16,8 +17,8 @@ same-length c = search needs
 
 -- checks 1 to 11 passed
 ready : (c : tie.Else1)
-    → let a = c .before .before .before .before .before .before .before .before .before .args in SheetFits (a .plan .now) (a .sheet .now)
-ready c = sheet-zero _ _ (checked-passes (c .before .before .before .before .sheet-checks .ensures) (c .if1 .left))
+    → let a = c .before .before .before .before .before .before .before .before .before .args in SheetFits ByRow (a .plan .now) (a .sheet .now)
+ready c = sheet-zero ByRow _ _ (checked-passes (c .before .before .before .before .sheet-checks .ensures) (c .if1 .left))
 
 returns : tie.Need-returns
 unfolding formChecks

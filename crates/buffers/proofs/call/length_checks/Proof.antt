@@ -18,8 +18,8 @@ same-length c = search needs
 
 -- checks 1 to 11 passed
 ready : (c : tie.Else1)
-    → let a = c .before .before .before .before .before .before .before .before .before .before .args in SheetFits (a .plan .now) (a .sheet .now)
-ready c = sheet-zero _ _ (checked-passes (c .before .before .before .before .sheet-checks .ensures) (c .if1 .left))
+    → let a = c .before .before .before .before .before .before .before .before .before .before .args in SheetFits (a .lay) (a .plan .now) (a .sheet .now)
+ready c = sheet-zero _ _ _ (checked-passes (c .before .before .before .before .sheet-checks .ensures) (c .if1 .left))
 
 returns : tie.Need-returns
 unfolding lengthChecks

@@ -1,6 +1,7 @@
 -- `buffers::call::scan_lengths` meets its contract: the second scan's length is asked for only where checks 1 to 11 gave 0 for the first. Assumes nothing.
 use mathlib.Core.Path.{_∙_}
 use native.Mathlib.Omega.{arith}
+use Rattle.layout.specs.declared.stored.Layout.the-variants.{ByRow}
 use Rattle.plan.specs.Bytes.{codeOf}
 use Rattle.buffers.specs.Buffers.{scanLengths}
 use Rattle.buffers.proofs.Passing.{SheetFits, sheet-zero, checked-passes, checked-stops, checked-goes-on}
@@ -19,8 +20,8 @@ abbrev given : tie.Else1 → tie.Start
 given c = c .before .before .before .before .before .before .before .before .before .before
 
 -- checks 1 to 11 passed for the first scan
-ready : (c : tie.Else1) → let a = given c .args in SheetFits (a .plan .now) (a .first .now)
-ready c = sheet-zero _ _ (checked-passes (c .before .before .before .before .sheet-checks .ensures) (c .if1 .left))
+ready : (c : tie.Else1) → let a = given c .args in SheetFits ByRow (a .plan .now) (a .first .now)
+ready c = sheet-zero ByRow _ _ (checked-passes (c .before .before .before .before .sheet-checks .ensures) (c .if1 .left))
 
 returns : tie.Need-returns
 unfolding scanLengths

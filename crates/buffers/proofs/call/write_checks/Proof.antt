@@ -19,8 +19,8 @@ same-length c = search needs
 -- checks 1 to 12 passed
 ready : (c : tie.Else1)
     → let a = c .before .before .before .before .before .before .before .before .before .before .args in
-    Lengths (a .plan .now) (a .sheet .now) (a .bits .now)
-ready c = length-zero _ _ _ (checked-passes (c .before .before .before .before .length-checks .ensures) (c .if1 .left))
+    Lengths (a .lay) (a .plan .now) (a .sheet .now) (a .bits .now)
+ready c = length-zero _ _ _ _ (checked-passes (c .before .before .before .before .length-checks .ensures) (c .if1 .left))
 
 returns : tie.Need-returns
 unfolding writeChecks

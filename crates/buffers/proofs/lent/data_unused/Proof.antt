@@ -14,7 +14,7 @@ unused-verdict-requires : tie.Need-unused-verdict-requires
 unused-verdict-requires c κs =
     let s = c .before .before in
     let m = mul-le-mul (s .pre .0 .n1-most) (s .pre .0 .n2-most) in
-    (omega (arith, c .data-size .ensures), rw (c .data-size .ensures) (s .pre .1 .1 ∙ sym (row-sheet _)))
+    ((omega arith, omega (arith, c .data-size .ensures)), rw (c .data-size .ensures) (s .pre .1 .1 ∙ sym (row-sheet _)))
 
 returns : tie.Need-returns
 returns c = c .unused-verdict .ensures ∙ rw (c .before .data-size .ensures)

@@ -11,14 +11,20 @@ use Rattle.payload.proofs.transfer.put_run.Statement.{statement}
 use Rattle.payload.proofs.transfer.put_run.Tie as tie
 
 abbrev Inv-loop : tie.InvT-loop
-Inv-loop bits k sheet₀ n2 at len j₀ sheet j = (j ≤ len) × (sheet ≡ putRun j k bits n2 sheet₀ at)
+Inv-loop lay bits k sheet₀ n1 n2 at len j₀ sheet j = (j ≤ len) × (sheet ≡ putRun j k bits lay n1 n2 sheet₀ at)
 
 abbrev μ-loop : tie.MeasureT-loop
-μ-loop bits k sheet₀ n2 at len j₀ sheet j = len - j
+μ-loop lay bits k sheet₀ n1 n2 at len j₀ sheet j = len - j
 
 loop-holds : tie.Need-loop-holds Inv-loop μ-loop
 unfolding putRun
 loop-holds c = (omega arith, refl)
+
+loop-again : tie.Need-loop-again Inv-loop μ-loop
+loop-again c =
+    let w = c .before .before .before .before .before in
+    let v = c .before .before .before .before .before .before .before .before .before .loop .inv in
+    (omega arith, put-more _ _ _ _ _ _ _ _ _ _ _ _ (w .before .bit .ensures) (w .cell .ensures) (v .1) (c .before .before .turn-in .ensures))
 
 add-bit : tie.Need-add-bit Inv-loop μ-loop
 add-bit c =
@@ -37,14 +43,16 @@ cell-requires c κs =
     let e : c .bit .result ≡ bitAt (start .args .at) (c .before .before .before .loop .j) = c .bit .ensures in
     rw e (p .k-most, p .bit-in _ (omega arith))
 
-add-turn-if : tie.Need-add-turn-if Inv-loop μ-loop
-add-turn-if c = search needs
-
-turn-if-requires : tie.Need-turn-if-requires Inv-loop μ-loop
-turn-if-requires c κs =
+add-turn-in : tie.Need-add-turn-in Inv-loop μ-loop
+add-turn-in c =
     let p = c .before .before .before .before .before .before .before .before .before .pre in
-    let n = ap length (c .before .before .before .before .before .before .loop .inv .1) ∙ put-length _ _ _ _ _ _ in
-    rw n (p .n2-most, p .cell-in _ (omega arith))
+    omega (arith, p .column-most, p .sizes .n2-most)
+
+turn-in-requires : tie.Need-turn-in-requires Inv-loop μ-loop
+turn-in-requires c κs =
+    let p = c .before .before .before .before .before .before .before .before .before .pre in
+    let n = ap length (c .before .before .before .before .before .before .loop .inv .1) ∙ put-length _ _ _ _ _ _ _ _ in
+    (p .sizes, (n ∙ p .sheet-size, (p .row-below, omega (arith, p .column-most))))
 
 add-j : tie.Need-add-j Inv-loop μ-loop
 add-j c = search needs
@@ -52,14 +60,8 @@ add-j c = search needs
 loop-less : tie.Need-loop-less Inv-loop μ-loop
 loop-less c = search needs
 
-loop-again : tie.Need-loop-again Inv-loop μ-loop
-loop-again c =
-    let w = c .before .before .before .before .before in
-    let v = c .before .before .before .before .before .before .before .before .before .loop .inv in
-    (omega arith, put-more _ _ _ _ _ _ _ _ _ _ (w .before .bit .ensures) (w .cell .ensures) (v .1) (c .before .before .turn-if .ensures))
-
 same-length : tie.Need-same-length Inv-loop μ-loop
-same-length c = ap length (c .before .loop .inv .1) ∙ put-length _ _ _ _ _ _
+same-length c = ap length (c .before .loop .inv .1) ∙ put-length _ _ _ _ _ _ _ _
 
 returns : tie.Need-returns Inv-loop μ-loop
 returns c =
@@ -76,8 +78,8 @@ put-run-spec =
     add-bit
     bit-requires
     cell-requires
-    add-turn-if
-    turn-if-requires
+    add-turn-in
+    turn-in-requires
     add-j
     loop-less
     loop-again

@@ -3,7 +3,8 @@ use mathlib.Core.Path.{_≡_, refl, sym, ap, _∙_}
 use Prim.Native.Nat.{_+_, _-_, _*_}
 use native.Mathlib.Omega.{arith}
 use lib.ListN.{length}
-use Rattle.layout.specs.Cells.{cellOf, bytesOf}
+use Rattle.layout.specs.Cells.{bytesOf}
+use Rattle.layout.specs.Stored.{cellIn}
 use Rattle.layout.proofs.Form.{bytes-form, row-sheet}
 use Rattle.boxcode.specs.Check.{dataSize}
 use Rattle.boxcode.proofs.Check.{sheet-cells, checks-fit}
@@ -16,13 +17,13 @@ use Rattle.payload.proofs.transfer.take.Statement.{statement}
 use Rattle.payload.proofs.transfer.take.Tie as tie
 
 abbrev Inv-loop : tie.InvT-loop
-Inv-loop plan h sheet bits₀ k n2 at₀ bits at =
+Inv-loop lay plan h sheet bits₀ k n2 at₀ bits at =
     (k ≡ dataSize (codeWith plan h)) × (n2 ≡ h .n2) × At (codeWith plan h) at
-    × (bits ≡ bytesOf 1 (dataSize (codeWith plan h)) (takenTo (codeWith plan h) (cellOf (h .n2) sheet) (at .cell)))
+    × (bits ≡ bytesOf 1 (dataSize (codeWith plan h)) (takenTo (codeWith plan h) (cellIn lay (h .n1) (h .n2) sheet) (at .cell)))
 
 -- every step goes on to a later cell, or to the next row
 abbrev μ-loop : tie.MeasureT-loop
-μ-loop plan h sheet bits₀ k n2 at₀ bits at = (h .n1 * h .n2 + h .n1 + 1) - (at .cell + at .row)
+μ-loop lay plan h sheet bits₀ k n2 at₀ bits at = (h .n1 * h .n2 + h .n1 + 1) - (at .cell + at .row)
 
 mul-k : tie.Need-mul-k Inv-loop μ-loop
 mul-k c = let s = c .before .before .before .before .pre .0 .small in omega (arith, sheet-cells (s .n1-most) (s .n2-most))
@@ -61,7 +62,7 @@ take-run-requires c κs =
     let pre = c .before .before .before .before .before .before .before .before .before .before .before .before .before .before .before .before .pre in
     let v = c .before .before .before .before .before .loop .inv in
     let b = ap length (v .3) ∙ bytes-form _ _ _ .size ∙ row-sheet _ in
-    reaches _ (pre .1 .0) _ (v .2) (omega arith) _ _ _ _ _ (v .0) b refl (pre .1 .1 .1) (c .before .run .ensures)
+    reaches _ _ (pre .1 .0) _ (v .2) (omega arith) _ _ _ _ _ (v .0) b refl (pre .1 .1 .1) (c .before .run .ensures)
 
 step-requires : tie.Need-step-requires Inv-loop μ-loop
 step-requires c κs =
@@ -88,7 +89,7 @@ loop-again c =
       v .0,
       refl,
       w .at,
-      take-step _ (pre .1 .0) _ (v .2) (omega arith) _ w _ _ _ (v .0) refl (r .run .ensures) _ _ _ (v .3) (c .before .before .before .take-run .ensures),
+      take-step _ (pre .1 .0) _ (v .2) (omega arith) _ w _ _ _ (v .0) refl (r .run .ensures) _ _ _ _ (v .3) (c .before .before .before .take-run .ensures),
     )
 
 same-length : tie.Need-same-length Inv-loop μ-loop

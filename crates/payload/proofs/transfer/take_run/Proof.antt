@@ -11,22 +11,31 @@ use Rattle.payload.proofs.transfer.take_run.Statement.{statement}
 use Rattle.payload.proofs.transfer.take_run.Tie as tie
 
 abbrev Inv-loop : tie.InvT-loop
-Inv-loop sheet n2 bits₀ k at len j₀ bits j = (j ≤ len) × (bits ≡ takeRun j n2 sheet k bits₀ at)
+Inv-loop lay sheet n1 n2 bits₀ k at len j₀ bits j = (j ≤ len) × (bits ≡ takeRun j lay n1 n2 sheet k bits₀ at)
 
 abbrev μ-loop : tie.MeasureT-loop
-μ-loop sheet n2 bits₀ k at len j₀ bits j = len - j
+μ-loop lay sheet n1 n2 bits₀ k at len j₀ bits j = len - j
 
 loop-holds : tie.Need-loop-holds Inv-loop μ-loop
 unfolding takeRun
 loop-holds c = (omega arith, refl)
 
-add-cell : tie.Need-add-cell Inv-loop μ-loop
-add-cell c = search needs
+loop-again : tie.Need-loop-again Inv-loop μ-loop
+loop-again c =
+    let w = c .before .before .before in
+    let v = c .before .before .before .before .before .before .before .before .before .loop .inv in
+    let dark = w .before .before .before .cell-in .ensures in
+    (omega arith, take-more _ _ _ _ _ _ _ _ _ _ _ _ (w .bit .ensures) dark (v .1) (c .before .before .turn-if .ensures))
 
-cell-requires : tie.Need-cell-requires Inv-loop μ-loop
-cell-requires c κs =
+add-cell-in : tie.Need-add-cell-in Inv-loop μ-loop
+add-cell-in c =
     let p = c .before .before .before .before .before .pre in
-    (p .n2-most, p .cell-in _ (omega arith))
+    omega (arith, p .column-most, p .sizes .n2-most)
+
+cell-in-requires : tie.Need-cell-in-requires Inv-loop μ-loop
+cell-in-requires c κs =
+    let p = c .before .before .before .before .before .pre in
+    (p .sizes, (p .sheet-size, (p .row-below, omega (arith, p .column-most))))
 
 add-bit : tie.Need-add-bit Inv-loop μ-loop
 add-bit c =
@@ -44,7 +53,7 @@ turn-if-requires c κs =
     let w = c .before .before .before .before .before .before in
     let start = w .before .before .before in
     let p = start .pre in
-    let n = ap length (w .loop .inv .1) ∙ take-length _ _ _ _ _ _ in
+    let n = ap length (w .loop .inv .1) ∙ take-length _ _ _ _ _ _ _ _ in
     let e : c .bit .result ≡ bitAt (start .args .at) (w .loop .j) = c .bit .ensures in
     rw (n, e) (p .k-most, p .bit-in _ (omega arith))
 
@@ -54,14 +63,8 @@ add-j c = search needs
 loop-less : tie.Need-loop-less Inv-loop μ-loop
 loop-less c = search needs
 
-loop-again : tie.Need-loop-again Inv-loop μ-loop
-loop-again c =
-    let w = c .before .before .before in
-    let v = c .before .before .before .before .before .before .before .before .before .loop .inv in
-    (omega arith, take-more _ _ _ _ _ _ _ _ _ _ (w .bit .ensures) (w .before .before .before .cell .ensures) (v .1) (c .before .before .turn-if .ensures))
-
 same-length : tie.Need-same-length Inv-loop μ-loop
-same-length c = ap length (c .before .loop .inv .1) ∙ take-length _ _ _ _ _ _
+same-length c = ap length (c .before .loop .inv .1) ∙ take-length _ _ _ _ _ _ _ _
 
 returns : tie.Need-returns Inv-loop μ-loop
 returns c =
@@ -75,8 +78,8 @@ take-run-spec =
     Inv-loop
     μ-loop
     loop-holds
-    add-cell
-    cell-requires
+    add-cell-in
+    cell-in-requires
     add-bit
     bit-requires
     turn-if-requires

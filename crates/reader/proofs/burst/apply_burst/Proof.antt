@@ -1,18 +1,28 @@
 -- `reader::burst::apply_burst` meets its contract. Assumes nothing.
 use mathlib.Core.Path.{_∙_}
+use Rattle.layout.proofs.Layouts.{in-size}
 use Rattle.plan.specs.Bytes.{codeWith}
-use Rattle.reader.proofs.Outcome.{burst-taken}
+use Rattle.mend.proofs.Turns.{small-burst}
+use Rattle.reader.proofs.Outcome.{burst-on, burst-taken}
 use borrow.Author.Needs.{needs}
 use Rattle.reader.proofs.burst.apply_burst.Statement.{statement}
 use Rattle.reader.proofs.burst.apply_burst.Tie as tie
 
 turn-box-requires : tie.Need-turn-box-requires
-turn-box-requires c κs = search needs
+turn-box-requires c κs =
+    let s = c .before .before .before .before in
+    let a = s .args in
+    let p = s .pre in
+    let size = in-size (a .lay) (a .h .n1) (a .h .n2) (a .sheet .now) (p .1 .0) in
+    (small-burst (p .0 .framed .small), (burst-on (a .lay) (codeWith (a .plan .now) (a .h)) (p .0 .formed) _ (p .1 .0) _ _ _ (p .1 .1 .1), size))
 
 take-requires : tie.Need-take-requires
 take-requires c κs =
-    let p = c .before .before .before .before .before .before .before .before .before .pre in
-    (p .0 .framed, (p .0 .formed, (p .1 .1 .0, c .before .before .before .before .turn-box .kept .0 ∙ p .1 .0 .size)))
+    let s = c .before .before .before .before .before .before .before .before .before in
+    let a = s .args in
+    let p = s .pre in
+    let size = in-size (a .lay) (a .h .n1) (a .h .n2) (a .sheet .now) (p .1 .0) in
+    (p .0 .framed, (p .0 .formed, (p .1 .1 .0, c .before .before .before .before .turn-box .kept .1 .0 ∙ size)))
 
 accept-requires : tie.Need-accept-requires
 accept-requires c κs = search needs
@@ -29,7 +39,7 @@ same-length-2 c = search needs
 returns : tie.Need-returns
 returns c =
     let a = c .before .before .before .before .before .before .before .before .before .before .before .before .before .before in
-    burst-taken (codeWith (a .args .plan .now) (a .args .h)) (a .pre .0 .formed) _ (a .pre .1 .0) _ _ _ (a .pre .1 .1 .1) _ _ _ _
+    burst-taken (a .args .lay) (codeWith (a .args .plan .now) (a .args .h)) (a .pre .0 .formed) _ (a .pre .1 .0) _ _ _ (a .pre .1 .1 .1) _ _ _ _
     (c .before .accept .ensures) (c .report-of .ensures) (c .before .before .before .before .before .before .before .before .before .turn-box .ensures)
     (c .before .before .before .before .take .ensures)
 

@@ -5,6 +5,7 @@ use native.Mathlib.Omega.{arith}
 use lib.ListN.{length}
 use Rattle.finite.specs.Search.{bit}
 use Rattle.layout.specs.Cells.{cellOf}
+use Rattle.layout.specs.declared.stored.Layout.the-variants.{ByRow}
 use Rattle.layout.proofs.Form.{bytes-form, row-sheet}
 use Rattle.mend.proofs.Turns.{small-burst, box-size}
 use Rattle.plan.specs.Bytes.{codeWith}
@@ -17,7 +18,7 @@ use Rattle.reader.proofs.burst.take_mended.Tie as tie
 
 abbrev Inv-loop : tie.InvT-loop
 Inv-loop plan h sheet bits₀ top left x b2 size k₀ bits k =
-    (k ≤ h .b1 * h .b2) × (bits ≡ packedData (codeWith plan h) (cellOf (h .n2) (digitsTurned (h .n2) sheet top left (h .b2) x k)))
+    (k ≤ h .b1 * h .b2) × (bits ≡ packedData (codeWith plan h) (cellOf (h .n2) (digitsTurned ByRow (h .n1) (h .n2) sheet top left (h .b2) x k)))
 
 abbrev μ-loop : tie.MeasureT-loop
 μ-loop plan h sheet bits₀ top left x b2 size k₀ bits k = h .b1 * h .b2 - k
@@ -42,7 +43,7 @@ add-turn-bit-if : tie.Need-add-turn-bit-if Inv-loop μ-loop
 add-turn-bit-if c =
     let p = c .before .before .before .before .before .before .before .before .before .before .before .pre in
     let F = p .0 .formed in
-    let l = digit-row _ _ _ _ _ _ (F .b2-pos) (burst-on _ F _ (p .1 .0) _ _ _ (p .1 .1 .1)) (c .before .before .loop .k) (omega arith) in
+    let l = digit-row _ _ _ _ _ _ (F .b2-pos) (burst-on ByRow _ F _ (p .1 .0) _ _ _ (p .1 .1 .1)) (c .before .before .loop .k) (omega arith) in
     let m = F .n1-most in
     omega arith
 
@@ -53,7 +54,7 @@ add-turn-bit-if-2 : tie.Need-add-turn-bit-if-2 Inv-loop μ-loop
 add-turn-bit-if-2 c =
     let p = c .before .before .before .before .before .before .before .before .before .before .before .pre in
     let F = p .0 .formed in
-    let l = digit-column _ _ _ _ _ _ (F .b2-pos) (burst-on _ F _ (p .1 .0) _ _ _ (p .1 .1 .1)) (c .before .before .loop .k) in
+    let l = digit-column _ _ _ _ _ _ (F .b2-pos) (burst-on ByRow _ F _ (p .1 .0) _ _ _ (p .1 .1 .1)) (c .before .before .loop .k) in
     let m = F .n2-most in
     omega arith
 
@@ -66,7 +67,7 @@ turn-bit-if-requires : tie.Need-turn-bit-if-requires Inv-loop μ-loop
 turn-bit-if-requires c κs =
     let p = c .before .before .before .before .before .before .before .before .before .before .before .pre in
     let F = p .0 .formed in
-    let R = burst-on _ F _ (p .1 .0) _ _ _ (p .1 .1 .1) in (
+    let R = burst-on ByRow _ F _ (p .1 .0) _ _ _ (p .1 .1 .1) in (
       p .0 .framed,
       (
         F,

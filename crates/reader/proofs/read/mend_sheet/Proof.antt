@@ -1,5 +1,6 @@
 -- `reader::read::mend_sheet` meets its contract: no burst is 14, and a burst is turned over. Assumes nothing.
 use mathlib.Core.Path.{_∙_}
+use Rattle.layout.proofs.Layouts.{in-size}
 use Rattle.plan.specs.Bytes.{codeWith}
 use Rattle.reader.proofs.Outcome.{mend-none, mend-some}
 use borrow.Author.Needs.{needs}
@@ -7,7 +8,11 @@ use Rattle.reader.proofs.read.mend_sheet.Statement.{statement}
 use Rattle.reader.proofs.read.mend_sheet.Tie as tie
 
 find-burst-requires : tie.Need-find-burst-requires
-find-burst-requires c κs = search needs
+find-burst-requires c κs =
+    let s = c .before .before .before .before .before in
+    let a = s .args in
+    let p = s .pre in
+    (p .0, (p .1 .0, in-size (a .lay) (a .h .n1) (a .h .n2) (a .sheet .now) (p .1 .1 .0)))
 
 enum-known-top : tie.Need-enum-known-top
 enum-known-top c = search needs
@@ -28,7 +33,7 @@ returns : tie.Need-returns
 returns c =
     let a = c .before .before .before .before .before .before .before .before .before .before in
     rw (c .refused-as .ensures, c .before .refuse .ensures)
-    (mend-none (codeWith (a .args .plan .now) (a .args .h)) _ _
+    (mend-none (a .args .lay) (codeWith (a .args .plan .now) (a .args .h)) _ _
     (rw (c .before .before .enum-told .given .1) at (c .before .before .before .before .find-burst .ensures)))
 
 apply-burst-requires : tie.Need-apply-burst-requires
@@ -48,7 +53,7 @@ returns-2 c =
     let a = c .before .before .before .before .before .before .before .before .before .before .before .before .before .before .before .before in
     let t = c .before .before .before .before .before .before .before .before in
     let b = rw (t .top .given .1) at (t .before .before .find-burst .ensures) in
-    c .before .before .before .before .apply-burst .ensures ∙ mend-some (codeWith (a .args .plan .now) (a .args .h)) _ _ _ _ _ b
+    c .before .before .before .before .apply-burst .ensures ∙ mend-some (a .args .lay) (codeWith (a .args .plan .now) (a .args .h)) _ _ _ _ _ b
 
 pub mend-sheet-spec : {M : Type 1} → statement M
 mend-sheet-spec =

@@ -31,17 +31,17 @@ returns c =
     let a = c .before .before .before .before .before .before .before .before .before .before .before .args in
     let e = c .before .before .before .before .length-checks .ensures .verdict in
     let n = ap (λ (v : Verdict). v .number) e in
-    rw (c .refused-as .ensures, e) (lengths-refuse (a .plan .now) (a .sheet .now) (a .bits .now) (λ z. omega (arith, c .before .if1 .taken)))
+    rw (c .refused-as .ensures, e) (lengths-refuse (a .lay) (a .plan .now) (a .sheet .now) (a .bits .now) (λ z. omega (arith, c .before .if1 .taken)))
 
 -- what the function was given, where checks 1 to 12 passed
 abbrev given : tie.Else1 → tie.Start
 given c = c .before .before .before .before .before .before .before .before .before .before
 
-passes : (c : tie.Else1) → let a = given c .args in lengthChecks (a .plan .now) (a .sheet .now) (a .bits .now) .number ≡ 0
+passes : (c : tie.Else1) → let a = given c .args in lengthChecks (a .lay) (a .plan .now) (a .sheet .now) (a .bits .now) .number ≡ 0
 passes c = checked-passes (c .before .before .before .length-checks .ensures) (c .if1 .left)
 
-ready : (c : tie.Else1) → let a = given c .args in Lengths (a .plan .now) (a .sheet .now) (a .bits .now)
-ready c = length-zero _ _ _ (passes c)
+ready : (c : tie.Else1) → let a = given c .args in Lengths (a .lay) (a .plan .now) (a .sheet .now) (a .bits .now)
+ready c = length-zero _ _ _ _ (passes c)
 
 header-of-requires : tie.Need-header-of-requires
 header-of-requires c κs = let f = ready c .accepted .framed in omega arith

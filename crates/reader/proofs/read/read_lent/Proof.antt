@@ -24,20 +24,20 @@ returns c =
     let e = c .before .before .before .sheet-unused .ensures in
     let p = a .pre in
     let n = ap (λ (v : Verdict). v .number) e in
-    rw (c .refused-as .ensures, e) (unused-refuses _ _ _ (a .args .h) (p .0) (p .1 .1 .0) (p .1 .1 .1) (λ z. omega (arith, c .before .if1 .taken)))
+    rw (c .refused-as .ensures, e) (unused-refuses _ _ _ _ (a .args .h) (p .0) (p .1 .1 .0) (p .1 .1 .1) (λ z. omega (arith, c .before .if1 .taken)))
 
 -- what the function was given, where check 13 passed
 abbrev given : tie.Else1 → tie.Start
 given c = c .before .before .before .before .before .before .before .before
 
-passes : (c : tie.Else1) → let a = given c .args in unusedVerdict (a .h .n1) (a .h .n2) (a .sheet .now) .number ≡ 0
+passes : (c : tie.Else1) → let a = given c .args in unusedVerdict (a .lay) (a .h .n1) (a .h .n2) (a .sheet .now) .number ≡ 0
 passes c = ap (λ (v : Verdict). v .number) (sym (c .before .before .sheet-unused .ensures)) ∙ c .if1 .left
 
 mend-sheet-requires : tie.Need-mend-sheet-requires
 mend-sheet-requires c κs =
     let e = c .before .before in
     let p = given e .pre in
-    (p .0, (p .1 .0, (unused-right _ _ _ (p .1 .1 .0) (passes e), p .1 .1 .1)))
+    (p .0, (p .1 .0, (unused-right _ _ _ _ (p .1 .1 .0) (passes e), p .1 .1 .1)))
 
 same-length-2 : tie.Need-same-length-2
 same-length-2 c = search needs
@@ -51,7 +51,7 @@ returns-2 c =
     let e = m .before .before .before in
     let a = given e in
     let p = a .pre in
-    m .mend-sheet .ensures ∙ unused-mends _ _ _ (a .args .h) (p .0) (p .1 .1 .0) (p .1 .1 .1) (passes e)
+    m .mend-sheet .ensures ∙ unused-mends _ _ _ _ (a .args .h) (p .0) (p .1 .1 .0) (p .1 .1 .1) (passes e)
 
 pub read-lent-spec : {M : Type 1} → statement M
 read-lent-spec =

@@ -4,6 +4,7 @@ use Prim.Native.Nat.{ℕ, _+_, _-_, _*_, _≤_}
 use native.Mathlib.Omega.{arith}
 use lib.ListN.{getD}
 use Rattle.finite.specs.Search.{bit}
+use Rattle.layout.specs.declared.stored.Layout.the-variants.{ByRow}
 use Rattle.mend.proofs.Turns.{box-size}
 use Rattle.reader.specs.Turn.{digitsTurned, boxTurned}
 use Rattle.reader.proofs.Turned.{digit-row, digit-column, digit-byte, rows-most, byte-none, byte-next, byte-above, byte-below}
@@ -12,7 +13,7 @@ use Rattle.reader.proofs.turn.turned_byte.Statement.{statement}
 use Rattle.reader.proofs.turn.turned_byte.Tie as tie
 
 abbrev Inv-loop : tie.InvT-loop
-Inv-loop sheet n1 n2 top left b1 b2 x k size y₀ count m₀ y m = (m ≤ b1 * b2) × (y ≡ getD (digitsTurned n2 sheet top left b2 x m) k 0)
+Inv-loop sheet n1 n2 top left b1 b2 x k size y₀ count m₀ y m = (m ≤ b1 * b2) × (y ≡ getD (digitsTurned ByRow n1 n2 sheet top left b2 x m) k 0)
 
 abbrev μ-loop : tie.MeasureT-loop
 μ-loop sheet n1 n2 top left b1 b2 x k size y₀ count m₀ y m = b1 * b2 - m
@@ -51,7 +52,7 @@ mul-count : tie.Need-mul-count Inv-loop μ-loop
 mul-count c = omega (arith, box-size (c .before .before .before .before .before .pre .0))
 
 loop-holds : tie.Need-loop-holds Inv-loop μ-loop
-loop-holds c = (omega arith, byte-none _ _ _ _ _ _ _)
+loop-holds c = (omega arith, byte-none _ _ _ _ _ _ _ _)
 
 div-byte-turned : tie.Need-div-byte-turned Inv-loop μ-loop
 div-byte-turned c = c .before .before .before .before .before .before .before .pre .0 .b2-pos
@@ -95,14 +96,14 @@ loop-again : tie.Need-loop-again Inv-loop μ-loop
 unfolding bit
 loop-again c =
     let p = c .before .before .before .before .before .before .before .before .pre in
-    (omega arith, byte-next _ _ _ _ _ _ _ (p .1 .1 .1) _ _ _ (c .before .before .loop .inv .1) (c .byte-turned .ensures))
+    (omega arith, byte-next _ _ _ _ _ _ _ _ (p .1 .1 .1) _ _ _ (c .before .before .loop .inv .1) (c .byte-turned .ensures))
 
 returns-3 : tie.Need-returns-3 Inv-loop μ-loop
 unfolding boxTurned
 returns-3 c =
     let a = c .before .before .before .before .before .before .before .args in
     let e : c .before .loop .m ≡ a .b1 * a .b2 = omega arith in
-    c .before .loop .inv .1 ∙ ap (λ (n : ℕ). getD (digitsTurned (a .n2) (a .sheet .now) (a .top) (a .left) (a .b2) (a .x) n) (a .k) 0) e
+    c .before .loop .inv .1 ∙ ap (λ (n : ℕ). getD (digitsTurned ByRow (a .n1) (a .n2) (a .sheet .now) (a .top) (a .left) (a .b2) (a .x) n) (a .k) 0) e
 
 pub turned-byte-spec : {M : Type 1} → statement M
 turned-byte-spec =

@@ -4,6 +4,7 @@ use Prim.Native.Nat.{ℕ, _-_, _≤_, _<_}
 use native.Mathlib.Omega.{arith}
 use borrow.Author.Count.{below-none, below-more}
 use lib.ListN.{length, getD}
+use Rattle.layout.specs.declared.stored.Layout.the-variants.{ByRow}
 use Rattle.layout.proofs.Agreement.{agree-ends, agree-stops}
 use Rattle.mend.proofs.Turns.{small-burst}
 use Rattle.reader.specs.Turn.{boxTurned}
@@ -14,7 +15,8 @@ use Rattle.scans.proofs.agree.mended_agree.Tie as tie
 abbrev Inv-loop : tie.InvT-loop
 Inv-loop h first top left x second top2 left2 x2 k₀ k =
     (k ≤ length first)
-    × ((j : ℕ) → j < k → getD (boxTurned (h .n2) first top left (h .b1) (h .b2) x) j 0 ≡ getD (boxTurned (h .n2) second top2 left2 (h .b1) (h .b2) x2) j 0)
+    × ((j : ℕ) → j < k → getD (boxTurned ByRow (h .n1) (h .n2) first top left (h .b1) (h .b2) x) j 0
+    ≡ getD (boxTurned ByRow (h .n1) (h .n2) second top2 left2 (h .b1) (h .b2) x2) j 0)
 
 abbrev μ-loop : tie.MeasureT-loop
 μ-loop h first top left x second top2 left2 x2 k₀ k = length first - k
@@ -36,7 +38,7 @@ returns : tie.Need-returns Inv-loop μ-loop
 returns c =
     let l = c .before .before .before .before .loop in
     let a = c .before .before .before .before .before .before .before .args in
-    let n = box-length (a .h .n2) (a .first .now) (a .top) (a .left) (a .h .b1) (a .h .b2) (a .x) in
+    let n = box-length ByRow (a .h .n1) (a .h .n2) (a .first .now) (a .top) (a .left) (a .h .b1) (a .h .b2) (a .x) in
     sym
     (agree-stops _ _ (l .k) (omega arith)
     (λ e. c .if1 .taken (c .before .before .turned-byte .ensures ∙ e ∙ sym (c .before .turned-byte2 .ensures))))
@@ -55,7 +57,7 @@ loop-again c =
 returns-2 : tie.Need-returns-2 Inv-loop μ-loop
 returns-2 c =
     let a = c .before .before .before .before .args in
-    let n = box-length (a .h .n2) (a .first .now) (a .top) (a .left) (a .h .b1) (a .h .b2) (a .x) in
+    let n = box-length ByRow (a .h .n1) (a .h .n2) (a .first .now) (a .top) (a .left) (a .h .b1) (a .h .b2) (a .x) in
     sym (agree-ends _ _ (λ j l. c .before .loop .inv .1 j (omega arith)))
 
 pub mended-agree-spec : {M : Type 1} → statement M

@@ -1,5 +1,6 @@
 -- `scans::reading::read_alone` meets its contract: no burst is 14, and with a burst the data is taken. Assumes nothing.
 use mathlib.Core.Path.{ap, ap₂, _∙_}
+use Rattle.layout.specs.declared.stored.Layout.the-variants.{ByRow}
 use Rattle.plan.specs.Bytes.{codeWith}
 use Rattle.reader.proofs.Outcome.{mend-none, mend-some}
 use Rattle.scans.specs.ReadTwo.{twoRead, alone}
@@ -24,7 +25,7 @@ returns c =
     let a = c .before .before .before .before .before .before .before .before .args in
     rw (c .refuse .ensures)
     (ap alone
-    (mend-none (codeWith (a .plan .now) (a .h)) _ _
+    (mend-none ByRow (codeWith (a .plan .now) (a .h)) _ _
     (rw (c .before .enum-told .given .1) at (c .before .before .before .find-burst .ensures))))
 
 take-mended-requires : tie.Need-take-mended-requires
@@ -45,7 +46,7 @@ returns-2 c =
     let a = t .before .before .before .before .before .before .before .before .before .args in
     let b = rw (t .before .before .top .given .1) at (t .before .before .before .before .find-burst .ensures) in
     ap₂ twoRead (c .accept .ensures) (c .before .before .before .take-mended .ensures)
-    ∙ ap alone (mend-some (codeWith (a .plan .now) (a .h)) _ _ _ _ _ b)
+    ∙ ap alone (mend-some ByRow (codeWith (a .plan .now) (a .h)) _ _ _ _ _ b)
 
 pub read-alone-spec : {M : Type 1} → statement M
 read-alone-spec =

@@ -2,6 +2,7 @@
 use mathlib.Core.Path.{_≡_, ap₂, _∙_}
 use borrow.Author.Tests.{not-true, not-false}
 use Rattle.layout.specs.Differ.{agree}
+use Rattle.layout.specs.declared.stored.Layout.the-variants.{ByRow}
 use Rattle.plan.specs.Bytes.{codeWith}
 use Rattle.reader.specs.Read.{bitsRead}
 use Rattle.scans.specs.ReadTwo.{twoRead}
@@ -21,7 +22,7 @@ refuse-requires c κs = search needs
 same : (c : tie.After-mended-agree)
     → let a = c .before .before .before .before .before .args in
     let k = codeWith (a .plan .now) (a .h) in
-    agree (bitsRead k (a .first .now)) (bitsRead k (a .second .now)) ≡ c .mended-agree .result
+    agree (bitsRead ByRow k (a .first .now)) (bitsRead ByRow k (a .second .now)) ≡ c .mended-agree .result
 same c =
     let p = c .before .before .before .before .before .pre in
     agree-found _ (p .0 .formed) (p .0 .conditions) _ (p .1 .0) _ _ _ (p .1 .1 .0) _ (p .1 .1 .1 .0) _ _ _ (p .1 .1 .1 .1 .0) _ (c .mended-agree .ensures)

@@ -1,6 +1,7 @@
 -- `scans::reading::read_scans` meets its contract: by whether each scan has a burst. Assumes nothing.
 use mathlib.Core.Path.{ap, ap₂, _∙_}
 use mathlib.Core.List.{[]}
+use Rattle.layout.specs.declared.stored.Layout.the-variants.{ByRow}
 use Rattle.boxcode.specs.Reader.{noReport}
 use Rattle.mend.specs.Report.{reportAs}
 use Rattle.plan.specs.Bytes.{codeWith}
@@ -34,8 +35,8 @@ returns c =
     let k = codeWith (a .plan .now) (a .h) in
     c .before .before .read-alone .ensures
     ∙ decide-alone k _ _ _
-    ∙ ap (λ (o : Outcome). decide o (mendOutcome k (a .second .now) (a .bits .now)) (a .bits .now))
-    (mend-none k _ _ (rw (t .enum-told .given .1) at (t .before .before .find-burst .ensures)))
+    ∙ ap (λ (o : Outcome). decide o (mendOutcome ByRow k (a .second .now) (a .bits .now)) (a .bits .now))
+    (mend-none ByRow k _ _ (rw (t .enum-told .given .1) at (t .before .before .find-burst .ensures)))
 
 find-burst-requires-2 : tie.Need-find-burst-requires-2
 find-burst-requires-2 c κs = search needs
@@ -66,8 +67,8 @@ returns-2 c =
     let b = rw (t .before .before .before .before .before .top .given .1) at (t .before .before .before .before .before .before .before .find-burst .ensures) in
     ap₂ twoRead (c .accept .ensures) (c .before .before .before .take-mended .ensures)
     ∙ decide-first _ (reportAs noReport) _ _ _ [] _
-    ∙ ap₂ (λ (o q : Outcome). decide o q (a .bits .now)) (mend-some k _ _ _ _ _ b)
-    (mend-none k _ _ (rw (t .before .enum-told2 .given .1) at (t .before .before .before .find-burst2 .ensures)))
+    ∙ ap₂ (λ (o q : Outcome). decide o q (a .bits .now)) (mend-some ByRow k _ _ _ _ _ b)
+    (mend-none ByRow k _ _ (rw (t .before .enum-told2 .given .1) at (t .before .before .before .find-burst2 .ensures)))
 
 read-both-requires : tie.Need-read-both-requires
 read-both-requires c κs =
@@ -89,7 +90,7 @@ returns-3 c =
     let b = rw (u .top .given .1) at (u .before .before .find-burst .ensures) in
     let q = rw (t .before .before .top2 .given .1) at (t .before .before .before .before .find-burst2 .ensures) in
     c .before .before .read-both .ensures
-    ∙ ap₂ (λ (o r : Outcome). decide o r (a .bits .now)) (mend-some k _ _ _ _ _ b) (mend-some k _ _ _ _ _ q)
+    ∙ ap₂ (λ (o r : Outcome). decide o r (a .bits .now)) (mend-some ByRow k _ _ _ _ _ b) (mend-some ByRow k _ _ _ _ _ q)
 
 pub read-scans-spec : {M : Type 1} → statement M
 read-scans-spec =

@@ -1,6 +1,7 @@
 -- `scans::reading::read_two` meets its contract: what writes is reached only where checks 1 to 13 pass. Assumes nothing.
 use mathlib.Core.Path.{_≡_, refl, ap, _∙_}
 use native.Mathlib.Omega.{arith}
+use Rattle.layout.specs.declared.stored.Layout.the-variants.{ByRow}
 use Rattle.plan.specs.declared.header.Header.{Header}
 use Rattle.plan.specs.declared.verdict.Verdict.{Verdict}
 use Rattle.plan.specs.Bytes.{codeOf, codeWith}
@@ -64,7 +65,7 @@ returns-2 c =
     let a = given (h .before) .args in
     c .before .before .read-scans .ensures
     ∙ ap (λ (h : Header). let k = codeWith (a .plan .now) h in
-    decide (mendOutcome k (a .first .now) (a .bits .now)) (mendOutcome k (a .second .now) (a .bits .now)) (a .bits .now)) (h .header-of .ensures)
+    decide (mendOutcome ByRow k (a .first .now) (a .bits .now)) (mendOutcome ByRow k (a .second .now) (a .bits .now)) (a .bits .now)) (h .header-of .ensures)
     ∙ two-decides (a .plan .now) (a .first .now) (a .second .now) (a .bits .now) (passes (h .before))
 
 pub read-two-spec : {M : Type 1} → statement M

@@ -1,4 +1,5 @@
 -- `writer::balancing::balance` meets its contract: the check cells are turned over that bring the joint sum to 0. Assumes nothing.
+use Rattle.layout.proofs.Layouts.{in-size}
 use Rattle.plan.specs.Bytes.{codeWith}
 use Rattle.writer.proofs.Balanced.{turned-written}
 use borrow.Author.Needs.{needs}
@@ -12,8 +13,10 @@ check-digits-requires c κs =
 
 turn-checks-requires : tie.Need-turn-checks-requires
 turn-checks-requires c κs =
-    let p = c .before .before .before .before .pre in
-    (p .0 .framed, (p .0 .formed, p .1 .0 .size))
+    let s = c .before .before .before .before in
+    let a = s .args in
+    let p = s .pre in
+    (p .0 .framed, (p .0 .formed, in-size (a .lay) (a .h .n1) (a .h .n2) (a .sheet .now) (p .1 .0)))
 
 same-length : tie.Need-same-length
 same-length c = search needs
@@ -23,7 +26,7 @@ returns c =
     let t = c .before .before in
     let a = t .before .before .before .before .before in
     let A = a .pre .0 in
-    turned-written (codeWith (a .args .plan .now) (a .args .h)) (A .formed) (A .conditions) _ _ _ _ (a .pre .1 .0) (a .pre .1 .1)
+    turned-written (a .args .lay) (codeWith (a .args .plan .now) (a .args .h)) (A .formed) (A .conditions) _ _ _ _ (a .pre .1 .0) (a .pre .1 .1)
     (t .before .before .check-digits .ensures) (t .turn-checks .ensures)
 
 pub balance-spec : {M : Type 1} → statement M

@@ -10,22 +10,22 @@ use Rattle.writer.proofs.turning.turn_checks.Statement.{statement}
 use Rattle.writer.proofs.turning.turn_checks.Tie as tie
 
 abbrev Inv-loop : tie.InvT-loop
-Inv-loop plan h y sheet₀ count k₀ sheet k = (k ≤ count) × (sheet ≡ turnedTo (codeWith plan h) y k sheet₀)
+Inv-loop lay plan h y sheet₀ count k₀ sheet k = (k ≤ count) × (sheet ≡ turnedTo lay (codeWith plan h) y k sheet₀)
 
 abbrev μ-loop : tie.MeasureT-loop
-μ-loop plan h y sheet₀ count k₀ sheet k = count - k
+μ-loop lay plan h y sheet₀ count k₀ sheet k = count - k
 
 add-count : tie.Need-add-count Inv-loop μ-loop
 add-count c = omega arith
 
 loop-holds : tie.Need-loop-holds Inv-loop μ-loop
-loop-holds c = (omega arith, turned-none _ _ _)
+loop-holds c = (omega arith, turned-none _ _ _ _)
 
 turn-check-requires : tie.Need-turn-check-requires Inv-loop μ-loop
 turn-check-requires c κs =
     let p = c .before .before .before .before .before .before .pre in
     let v = c .before .before .loop .inv in
-    (p .0, (p .1 .0, (c .before .loop-test .taken, ap length (v .1) ∙ turned-size _ _ _ _ ∙ p .1 .1)))
+    (p .0, (p .1 .0, (c .before .loop-test .taken, ap length (v .1) ∙ turned-size _ _ _ _ _ ∙ p .1 .1)))
 
 add-k : tie.Need-add-k Inv-loop μ-loop
 add-k c = omega arith
@@ -36,10 +36,10 @@ loop-less c = omega arith
 loop-again : tie.Need-loop-again Inv-loop μ-loop
 loop-again c =
     let t = c .before .before in
-    (omega arith, turned-next _ _ _ _ _ _ (t .before .before .before .loop .inv .1) (t .turn-check .ensures))
+    (omega arith, turned-next _ _ _ _ _ _ _ (t .before .before .before .loop .inv .1) (t .turn-check .ensures))
 
 same-length : tie.Need-same-length Inv-loop μ-loop
-same-length c = ap length (c .before .loop .inv .1) ∙ turned-size _ _ _ _
+same-length c = ap length (c .before .loop .inv .1) ∙ turned-size _ _ _ _ _
 
 returns : tie.Need-returns Inv-loop μ-loop
 returns c =

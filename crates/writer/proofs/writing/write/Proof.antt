@@ -6,7 +6,7 @@ use Rattle.plan.specs.Bytes.{codeOf}
 use Rattle.accept.proofs.Acceptance.{accepted-with}
 use Rattle.buffers.specs.Buffers.{writeChecks}
 use Rattle.buffers.proofs.Passing.{MayWrite, write-zero, checked-passes}
-use Rattle.writer.specs.Write.{wrote, writtenBytes}
+use Rattle.writer.specs.Write.{wrote, writtenIn}
 use Rattle.writer.proofs.Outcomes.{write-refused, write-done}
 use borrow.Author.Needs.{needs}
 use Rattle.writer.proofs.writing.write.Statement.{statement}
@@ -26,17 +26,17 @@ returns c =
     let s = c .before .before .before .before .before .before .before .before .before .args in
     let e = c .before .before .before .write-checks .ensures .verdict in
     let n = ap (λ (v : Verdict). v .number) e in
-    ap (λ (v : Verdict). wrote v (s .sheet .now)) e ∙ sym (write-refused _ _ _ (λ z. omega (arith, c .if1 .taken)))
+    ap (λ (v : Verdict). wrote v (s .sheet .now)) e ∙ sym (write-refused _ _ _ _ (λ z. omega (arith, c .if1 .taken)))
 
 -- what the function was given, where the checks passed
 abbrev given : tie.Else1 → tie.Start
 given c = c .before .before .before .before .before .before .before .before .before
 
-passes : (c : tie.Else1) → let a = given c .args in writeChecks (a .plan .now) (a .bits .now) (a .sheet .now) .number ≡ 0
+passes : (c : tie.Else1) → let a = given c .args in writeChecks (a .lay) (a .plan .now) (a .bits .now) (a .sheet .now) .number ≡ 0
 passes c = checked-passes (c .before .before .before .write-checks .ensures) (c .if1 .left)
 
-ready : (c : tie.Else1) → let a = given c .args in MayWrite (a .plan .now) (a .bits .now) (a .sheet .now)
-ready c = write-zero _ _ _ (passes c)
+ready : (c : tie.Else1) → let a = given c .args in MayWrite (a .lay) (a .plan .now) (a .bits .now) (a .sheet .now)
+ready c = write-zero _ _ _ _ (passes c)
 
 header-of-requires : tie.Need-header-of-requires
 header-of-requires c κs = let w = ready c in omega (arith, w .lengths .accepted .framed .long)
@@ -56,15 +56,15 @@ same-length-2 c = search needs
 
 -- the sheet after, by the plan's bytes and the data alone
 whole : (c : tie.After-write-sheet) → let a = given (c .before .before .before .before) .args in
-    c .write-sheet .last .1 .1 .1 .1 .0 ≡ writtenBytes (a .plan .now) (a .bits .now)
-unfolding writtenBytes codeOf
+    c .write-sheet .last .1 .1 .1 .1 .1 .0 ≡ writtenIn (a .lay) (a .plan .now) (a .bits .now)
+unfolding writtenIn codeOf
 whole c = rw (c .before .before .before .header-of .ensures) at (c .write-sheet .ensures)
 
 returns-2 : tie.Need-returns-2
 returns-2 c =
     let t = c .before .before in
     let e = c .before .before .before .before .before .before .before .before .before .write-checks .ensures .verdict in
-    ap₂ wrote e (whole t) ∙ sym (write-done _ _ _ (passes (c .before .before .before .before .before .before)))
+    ap₂ wrote e (whole t) ∙ sym (write-done _ _ _ _ (passes (c .before .before .before .before .before .before)))
 
 pub write-spec : {M : Type 1} → statement M
 write-spec =
