@@ -1,7 +1,7 @@
 -- Small laws of truth values:
 --
 --   and-left, and-right, and-both   a conjunction is true exactly where both parts are
---   and-true, and-false             a conjunction with a known second part
+--   and-true, and-false, and-comm   a conjunction with a known second part; its parts exchanged
 --   or-cases, or-left, or-right     a disjunction is true exactly where one part is
 --   or-false                        and false where both are
 --   same-truth                      two values are equal if each is true where the other is
@@ -56,6 +56,12 @@ and-right false b e = clash e refl
 pub and-both : (a b : Bool) → a ≡ true → b ≡ true → (a && b) ≡ true
 and-both true b p q = q
 and-both false b p q = p
+
+pub and-comm : (a b : Bool) → (a && b) ≡ (b && a)
+and-comm true true = refl
+and-comm true false = refl
+and-comm false true = refl
+and-comm false false = refl
 
 pub and-true : (a : Bool) → (a && true) ≡ a
 and-true true = refl

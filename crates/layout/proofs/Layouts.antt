@@ -21,6 +21,7 @@ use native.Mathlib.Nat.{mul-le-mul}
 use native.Mathlib.Omega.{arith}
 use lib.Dec.{eqb}
 use lib.ListN.{length, replicate}
+use Rattle.finite.proofs.Truth.{and-comm}
 use Rattle.layout.specs.Cells.{rowBytes, sheetBytes, RightForm}
 use Rattle.layout.specs.Stored.{Sizes, sizeIn, cellIn, FormIn, bytesIn, firstUnusedIn, turnedIn}
 use Rattle.layout.specs.declared.stored.Layout.{Layout}
@@ -85,12 +86,6 @@ size-most ByColumn n1 n2 S =
     omega arith
 
 -- ---- one cell turned over
-
-and-comm : (a b : Bool) → (a && b) ≡ (b && a)
-and-comm true true = refl
-and-comm true false = refl
-and-comm false true = refl
-and-comm false false = refl
 
 module _ (lay : Layout) (n1 n2 : ℕ) (s : List ℕ) (f : FormIn lay n1 n2 s) (i j : ℕ) (li : i < n1) (lj : j < n2) (t : Bool) where
   pub in-turned-form : FormIn lay n1 n2 (turnedIn t lay n1 n2 s i j)

@@ -1,7 +1,6 @@
 -- The sums of a sheet that is stored by columns, by blocks of eight rows:
 --
 --   byte-equal                 equal weights give a byte equal sums
---   two-added                  the sums of two sets of cells together
 --   part-byte                  the part of a column that stands in a block is one byte
 --   byte-inside                it is a byte of the sheet
 --   own-inside                 the H entries of a column stand in its table
@@ -24,7 +23,7 @@ use lib.Seq.{getD-drop, getD-take}
 use Rattle.finite.specs.Search.{bit}
 use Rattle.gf2.specs.Xor.{_⊕_, pick}
 use Rattle.gf2.specs.Sum.{xorSum, runSum}
-use Rattle.gf2.proofs.Xor.{xor-is, xor-comm, xor-below}
+use Rattle.gf2.proofs.Xor.{xor-comm}
 use Rattle.gf2.proofs.Sum.{sum-none, sum-next, sum-equal}
 use Rattle.gf2.proofs.RunSum.{run-sum-empty, run-sum-rest, run-sum-equal, run-sum-exchange}
 use Rattle.layout.specs.Cells.{rowBytes, sheetBytes}
@@ -39,28 +38,13 @@ use Rattle.plan.specs.declared.table.Table.the-variants.{Rows}
 use Rattle.syndrome.specs.declared.sums.Sums.{Sums}
 use Rattle.syndrome.specs.Gather.{byteSum, rowsAt, columnsAt, Words, TwoSums, ByteSums, RunSums}
 use Rattle.syndrome.specs.Columns.{byColumn, columnSum, tabled, Tables, PartSums}
+use Rattle.syndrome.proofs.Two.{two-none, two-same, two-added}
 use Rattle.syndrome.proofs.Line.{cell-in-byte}
 
 pub byte-equal : (f g : ℕ → ℕ) (x j n : ℕ) → ((t : ℕ) → t < n → f (j + t) ≡ g (j + t)) → byteSum f x j n ≡ byteSum g x j n
 unfolding byteSum
 byte-equal f g x j n h =
     sum-equal n (λ t. pick (bit x t) (f (j + t))) (λ t. pick (bit x t) (g (j + t))) (λ t l. ap (pick (bit x t)) (h t l))
-
-pub two-added : (v h v' h' : ℕ) (a r : Sums) → TwoSums v h a → TwoSums v' h' r
-    → TwoSums (v ⊕ v') (h ⊕ h') (record { row = bitXor (a .row) (r .row); column = bitXor (a .column) (r .column) })
-two-added v h v' h' a r A R = record {
-  row = xor-is (a .row) (r .row) ∙ ap₂ _⊕_ (A .row) (R .row);
-  column = xor-is (a .column) (r .column) ∙ ap₂ _⊕_ (A .column) (R .column);
-  row-below = rw (xor-is (a .row) (r .row)) (xor-below 32 (a .row) (r .row) (A .row-below) (R .row-below));
-  column-below = rw (xor-is (a .column) (r .column)) (xor-below 32 (a .column) (r .column) (A .column-below) (R .column-below));
-}
-
--- the same sums, told in another way
-two-same : (v h v' h' : ℕ) (r : Sums) → v ≡ v' → h ≡ h' → TwoSums v h r → TwoSums v' h' r
-two-same v h v' h' r ev eh R = record { row = R .row ∙ ev; column = R .column ∙ eh; row-below = R .row-below; column-below = R .column-below }
-
-two-none : (v h : ℕ) → v ≡ 0 → h ≡ 0 → TwoSums v h (record { row = 0; column = 0 })
-two-none v h ev eh = record { row = sym ev; column = sym eh; row-below = omega arith; column-below = omega arith }
 
 -- ---- the part of a column that stands in a block
 
