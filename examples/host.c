@@ -1,8 +1,8 @@
 /*
  * A whole host: makes a plan for sheets of 16 rows and 40 columns and bursts of 3 by 3 cells, writes a drawing to a
  * sheet, puts a burst on it, sums it in two halves, reads it back, alters one stitch, reads two scans that each have a
- * burst, reads a stack of sheets from two rooms, and shows each step. Cells inside the mended rectangle are shown as O
- * (dark) and o (light).
+ * burst, reads a stack of sheets from two rooms, reads a sheet that a scanner stored by columns, and shows each step.
+ * Cells inside the mended rectangle are shown as O (dark) and o (light).
  *
  *     gcc -Iinclude examples/host.c target/staticlib/libsheet.a -o host && ./host
  */
@@ -64,6 +64,14 @@ static void draw(void) {
 static int dark(const uint8_t *s, size_t i, size_t j) { return s[i * ROW_BYTES + j / 8] >> j % 8 & 1; }
 
 static void turn(uint8_t *s, size_t i, size_t j) { s[i * ROW_BYTES + j / 8] ^= (uint8_t)(1u << j % 8); }
+
+/* Four cells inside three rows and three columns. */
+static void put_burst(uint8_t *s) {
+    turn(s, 5, 12);
+    turn(s, 5, 14);
+    turn(s, 6, 13);
+    turn(s, 7, 12);
+}
 
 static void show(const char *title, const uint8_t *s, uint64_t answer) {
     size_t top = sheet_answer_top(answer), left = sheet_answer_left(answer);
@@ -184,6 +192,26 @@ static int read_sheets(void) {
     return good;
 }
 
+enum { COLUMN_BYTES = (ROWS + 7) / 8, COLUMNS_LEN = COLUMNS * COLUMN_BYTES };
+
+/*
+ * A sheet as a scanner stores it that runs along the columns: with the burst of the first scan, read where it lies, and
+ * turned by rows, for the calls that ask for that.
+ */
+static int read_by_columns(void) {
+    uint8_t columns[COLUMNS_LEN];
+    uint64_t answer;
+    memcpy(second, sheet, SHEET_LEN);
+    put_burst(second);
+    if (sheet_to_columns(plan, plan_len, second, SHEET_LEN, columns, COLUMNS_LEN) != SHEET_OK) return 0;
+    answer = sheet_read_by_column(plan, plan_len, columns, COLUMNS_LEN, back, DATA_LEN);
+    if (sheet_answer_number(answer) != SHEET_OK || memcmp(back, data, DATA_LEN) != 0) return 0;
+    printf("\na sheet by columns: %u cells mended, at row %u, column %u\n", sheet_answer_cells(answer),
+           sheet_answer_top(answer), sheet_answer_left(answer));
+    if (sheet_to_rows(plan, plan_len, columns, COLUMNS_LEN, second, SHEET_LEN) != SHEET_OK) return 0;
+    return memcmp(second, sheet, SHEET_LEN) == 0;
+}
+
 int main(void) {
     uint64_t answer = make_plan();
     if (sheet_answer_number(answer) != SHEET_OK) {
@@ -198,10 +226,7 @@ int main(void) {
     show("\nwritten:", sheet, 0);
 
     memcpy(scan, sheet, SHEET_LEN);
-    turn(scan, 5, 12);
-    turn(scan, 5, 14);
-    turn(scan, 6, 13);
-    turn(scan, 7, 12);
+    put_burst(scan);
     show("\nscanned, with a burst:", scan, 0);
     show_sums();
 
@@ -225,6 +250,9 @@ int main(void) {
 
     if (!read_sheets()) return 1;
     printf("the sheets that are taken give the altered data\n");
+
+    if (!read_by_columns()) return 1;
+    printf("turned by rows it is the sheet as written\n");
     free(plan);
     return 0;
 }

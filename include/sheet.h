@@ -1,15 +1,17 @@
 /*
  * sheet.h: pattern sheets that survive one burst.
  *
- * Ten calls on byte buffers: make a plan, make the house plan, test a plan, write a sheet, read a sheet, sum a run of
- * rows, alter one data bit of a sheet, read two scans of one film, find the row where two scans first differ, read a
- * stack of sheets. Each answers one 64-bit number, which the functions below take apart. The bytes of plans, sheets,
- * stacks and data are described in docs/FORMAT.md.
+ * Fourteen calls on byte buffers: make a plan, make the house plan, test a plan, write a sheet, read a sheet, sum a run
+ * of rows, alter one data bit of a sheet, read two scans of one film, find the row where two scans first differ, read a
+ * stack of sheets, write a sheet by columns, read one, turn a sheet by rows into one by columns, and turn one by
+ * columns into one by rows. Each answers one 64-bit number, which the functions below take apart. The bytes of plans,
+ * sheets, stacks and data are described in docs/FORMAT.md.
  *
  * Promise, proved for every accepted plan (docs/PROMISE.md): a sheet that sheet_write made, with any cells of one
  * rectangle of the plan's b1 rows and b2 columns turned over, is read back by sheet_read as it was written. Two scans
  * of one such sheet, a burst on either or both, always give its data by sheet_read_two; and each sheet of a stack is
- * read as if it were alone.
+ * read as if it were alone. A sheet by columns is written, read and mended as the one by rows that has the same cells,
+ * and turned from one layout into the other it loses nothing.
  *
  * Words. This header has one word for each thing; the knitter's word stands after it:
  *     sheet     the film: n1 rows by n2 columns of dark and light cells
@@ -26,6 +28,16 @@
  *     scan      a sheet as one head read it from the film: two scans of one film may each have a burst
  *     stack     0 to 64 sheets in one buffer, under one plan, behind a header that tells where each begins
  *     room      0 or 1, told of each sheet of a stack: what becomes of one room's sheets tells nothing of the other's
+ *     layout    how the cells of a sheet lie in its bytes: by rows or by columns
+ *     turned    of a sheet: in the other layout, with the same cells
+ *
+ * Layouts. A sheet by rows has one row after the other, each in n2 / 8 bytes, rounded up: column 0 is the lowest bit of
+ * a row's first byte. A sheet by columns has one column after the other, each in n1 / 8 bytes, rounded up: row 0 is the
+ * lowest bit of a column's first byte. The unused high bits of each last byte are 0. Sheets are by columns where a
+ * call's name or its text says so: in sheet_write_by_column and sheet_read_by_column, in the target of
+ * sheet_to_columns, and in the source of sheet_to_rows. All other calls keep to sheets by rows, the sums of runs,
+ * alterations, two scans and stacks among them: for these a sheet by columns is turned first. The data has one order,
+ * whatever the layout.
  *
  * The machine. libsheet.a is for x86-64 Linux, 64-bit: the C calling convention of System V, and a size_t of 8 bytes,
  * which is checked below. Of the C library it needs memcpy and memset, and nothing else.
@@ -74,7 +86,9 @@ enum {
     SHEET_ALTER_STACK = 65536,        /* sheet_alter */
     SHEET_READ_TWO_STACK = 65536,     /* sheet_read_two */
     SHEET_DIFFERENCE_STACK = 65536,   /* sheet_first_difference */
-    SHEET_READ_STACK_STACK = 65536    /* sheet_read_stack */
+    SHEET_READ_STACK_STACK = 65536,   /* sheet_read_stack */
+    SHEET_BY_COLUMN_STACK = 65536,    /* sheet_write_by_column, and sheet_read_by_column */
+    SHEET_TURN_STACK = 65536          /* sheet_to_columns, and sheet_to_rows */
 };
 
 /* The numbers of an answer, and what its places p and q tell. 13 and 14 are told of each sheet of a stack by itself. */
@@ -90,10 +104,10 @@ enum {
     SHEET_PLAN_ROWS = 8,      /* the condition on rows fails; the two window starts */
     SHEET_PLAN_COLUMNS = 9,   /* the condition on columns fails; the two strip starts */
     SHEET_PLAN_DEPENDENT = 10, /* a check cell depends on earlier ones; index, 0 */
-    SHEET_SHEET_LENGTH = 11,  /* the buffer of a sheet, or of a scan, has another length; 0, 0 */
+    SHEET_SHEET_LENGTH = 11,  /* the buffer of a sheet, or of a scan, has another length than its layout asks; 0, 0 */
     SHEET_DATA_LENGTH = 12,   /* the data buffer, of a stack that of all its sheets, has another length; 0, 0 */
-    SHEET_UNUSED_BIT = 13,    /* an unused bit is 1, of data written, or of a sheet or scan handed in; byte index, 0;
-                                 of a sheet of a stack the index is that in the sheet */
+    SHEET_UNUSED_BIT = 13,    /* an unused bit is 1, of data written, or of a sheet, scan or source handed in; byte
+                                 index, 0; of a sheet of a stack the index is that in the sheet */
     SHEET_NOT_MENDABLE = 14,  /* no single burst brings both sums to 0, of two scans those of neither; 0, 0 */
     SHEET_PLAN_POLYNOMIAL = 15, /* a polynomial has constant term 0, or a coefficient at or above its degree; 0, 0 */
     SHEET_PLAN_FEW_CELLS = 16, /* fewer than rv + rh check cells could be taken; 0, 0 */
@@ -212,6 +226,42 @@ uint64_t sheet_first_difference(const uint8_t *plan, size_t plan_len, const uint
 uint64_t sheet_read_stack(const uint8_t *plan, size_t plan_len, uint8_t *stack, size_t stack_len, uint8_t *numbers,
                           size_t numbers_len, uint8_t *data, size_t data_len);
 
+/*
+ * Writes the sheet by columns that carries the data: checks 1 to 13, then every byte of the sheet, whatever it held.
+ * sheet_len is sheet_plan_column_bytes, data_len sheet_plan_data_bytes. Leaves plan and data alone.
+ * What is left is the sheet that sheet_write makes of the data, turned. The data fills the same cells in the same
+ * order: row by row, in even rows from column 0 up, in odd rows from the highest column down.
+ */
+uint64_t sheet_write_by_column(const uint8_t *plan, size_t plan_len, const uint8_t *data, size_t data_len,
+                               uint8_t *sheet, size_t sheet_len);
+
+/*
+ * Reads a sheet by columns: checks 1 to 14, then mends the sheet in place and writes every byte of its data, whatever
+ * that held. sheet_len is sheet_plan_column_bytes; the place of check 13 is a byte of the sheet as it lies, by columns.
+ * For a sheet of the right form the answer and the data are those that sheet_read gives of that sheet turned, and what
+ * is left is what sheet_read leaves, turned: the rectangle is told in rows and columns as ever.
+ */
+uint64_t sheet_read_by_column(const uint8_t *plan, size_t plan_len, uint8_t *sheet, size_t sheet_len, uint8_t *data,
+                              size_t data_len);
+
+/*
+ * Turns a sheet by rows into one by columns, cell for cell: checks 1 to 11 for the source, 11 for the target and 13 for
+ * the source, then every byte of the target, whatever it held. source_len is sheet_plan_sheet_bytes, target_len
+ * sheet_plan_column_bytes. Leaves plan and source alone. The answer has a number and two places alone; which buffer
+ * failed check 11 is not told, and the place of check 13 is a byte of the source.
+ * Any sheet of the right form is taken, also one that does not belong to its plan, and nothing is mended. sheet_to_rows
+ * makes the source again of the target, byte for byte.
+ */
+uint64_t sheet_to_columns(const uint8_t *plan, size_t plan_len, const uint8_t *source, size_t source_len,
+                          uint8_t *target, size_t target_len);
+
+/*
+ * Turns a sheet by columns into one by rows: the same the other way round. source_len is sheet_plan_column_bytes,
+ * target_len sheet_plan_sheet_bytes. sheet_to_columns makes the source again of the target, byte for byte.
+ */
+uint64_t sheet_to_rows(const uint8_t *plan, size_t plan_len, const uint8_t *source, size_t source_len, uint8_t *target,
+                       size_t target_len);
+
 /* An answer taken apart (docs/ANSWER.md). */
 static inline unsigned sheet_answer_number(uint64_t answer) { return (unsigned)(answer & 31u); }
 static inline unsigned sheet_answer_p(uint64_t answer) { return (unsigned)((answer >> 5) & 65535u); }
@@ -267,11 +317,15 @@ static inline size_t sheet_plan_field(const uint8_t *plan, size_t plan_len, size
 }
 
 /*
- * The sizes that an accepted plan asks for: bytes of a sheet; k, the number of its data bits; and bytes of its data.
- * Any bytes may be handed in.
+ * The sizes that an accepted plan asks for: bytes of a sheet by rows, and of one by columns; k, the number of its data
+ * bits; and bytes of its data. Any bytes may be handed in.
  */
 static inline size_t sheet_plan_sheet_bytes(const uint8_t *plan, size_t plan_len) {
     return sheet_plan_field(plan, plan_len, 0) * ((sheet_plan_field(plan, plan_len, 2) + 7) / 8);
+}
+
+static inline size_t sheet_plan_column_bytes(const uint8_t *plan, size_t plan_len) {
+    return sheet_plan_field(plan, plan_len, 2) * ((sheet_plan_field(plan, plan_len, 0) + 7) / 8);
 }
 
 static inline size_t sheet_plan_data_bits(const uint8_t *plan, size_t plan_len) {

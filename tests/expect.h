@@ -5,6 +5,7 @@
 #include <stdint.h>
 #include <stdio.h>
 #include <stdlib.h>
+#include <string.h>
 
 static int failed = 0;
 
@@ -19,6 +20,17 @@ static inline uint8_t *lent(size_t len) {
     uint8_t *buffer = malloc(len);
     if (buffer == NULL && len > 0) exit(2);
     return buffer;
+}
+
+/* A buffer of just this length that holds these bytes. */
+static inline uint8_t *copied(const void *bytes, size_t len) {
+    uint8_t *buffer = lent(len);
+    if (len > 0) memcpy(buffer, bytes, len);
+    return buffer;
+}
+
+static inline int same(const void *one, const void *other, size_t len) {
+    return len == 0 || memcmp(one, other, len) == 0;
 }
 
 static inline void mark(uint8_t *buffer, size_t len) {

@@ -25,8 +25,8 @@ int main(void) {
     size_t n = sizeof plan_n, s = sizeof plan_s;
     uint64_t answer;
 
-    expect("sizes of no plan", sheet_plan_sheet_bytes(NULL, 0) == 0 && sheet_plan_data_bytes(NULL, 0) == 0 &&
-                                   sheet_plan_data_bits(NULL, 0) == 0);
+    expect("sizes of no plan", sheet_plan_sheet_bytes(NULL, 0) == 0 && sheet_plan_column_bytes(NULL, 0) == 0 &&
+                                   sheet_plan_data_bytes(NULL, 0) == 0 && sheet_plan_data_bits(NULL, 0) == 0);
     expect("plan N has no data", sheet_plan_data_bytes(plan_n, sizeof plan_n) == 0 &&
                                      sheet_plan_data_bits(plan_n, sizeof plan_n) == 0);
 
@@ -102,6 +102,35 @@ int main(void) {
     expect("a header of no sheets", sheet_stack_bytes(NULL, 0, 0) == 2);
     sheet_stack_header(NULL, 0, NULL, 0, no_sheets);
     expect("has two bytes", no_sheets[0] == 0 && no_sheets[1] == 0);
+
+    expect("columns, no plan", answers(sheet_write_by_column(NULL, 0, data, 1, sheet, 3), SHEET_PLAN_SHORT));
+    expect("columns, nothing", answers(sheet_write_by_column(NULL, 0, NULL, 0, NULL, 0), SHEET_PLAN_SHORT));
+    expect("columns, no sheet", answers(sheet_write_by_column(plan_s, s, data, 1, NULL, 0), SHEET_SHEET_LENGTH));
+    expect("columns, no data", answers(sheet_write_by_column(plan_s, s, NULL, 0, scan, 3), SHEET_DATA_LENGTH));
+    expect("columns, neither", answers(sheet_write_by_column(plan_n, n, NULL, 0, NULL, 0), SHEET_SHEET_LENGTH));
+    expect("a refusal leaves the columns", scan[0] == 1 && scan[1] == 0 && scan[2] == 0);
+    expect("columns, k = 0", answers(sheet_write_by_column(plan_n, n, NULL, 0, scan, 2), SHEET_OK) && scan[0] == 0);
+
+    expect("columns read, no plan", answers(sheet_read_by_column(NULL, 0, scan, 2, data, 1), SHEET_PLAN_SHORT));
+    expect("columns read, nothing", answers(sheet_read_by_column(NULL, 0, NULL, 0, NULL, 0), SHEET_PLAN_SHORT));
+    expect("columns read, no sheet", answers(sheet_read_by_column(plan_s, s, NULL, 0, data, 1), SHEET_SHEET_LENGTH));
+    expect("columns read, no data", answers(sheet_read_by_column(plan_s, s, scan, 3, NULL, 0), SHEET_DATA_LENGTH));
+    expect("columns read, neither", answers(sheet_read_by_column(plan_n, n, NULL, 0, NULL, 0), SHEET_SHEET_LENGTH));
+    scan[1] = 1;
+    answer = sheet_read_by_column(plan_n, n, scan, 2, NULL, 0);
+    expect("columns read, k = 0", sheet_answer_cells(answer) == 1 && sheet_answer_left(answer) == 1 && scan[1] == 0);
+
+    expect("turned, no plan", answers(sheet_to_columns(NULL, 0, sheet, 1, scan, 2), SHEET_PLAN_SHORT) &&
+                                  answers(sheet_to_rows(NULL, 0, scan, 2, sheet, 1), SHEET_PLAN_SHORT));
+    expect("turned, nothing", answers(sheet_to_columns(NULL, 0, NULL, 0, NULL, 0), SHEET_PLAN_SHORT) &&
+                                  answers(sheet_to_rows(NULL, 0, NULL, 0, NULL, 0), SHEET_PLAN_SHORT));
+    expect("turned, neither", answers(sheet_to_columns(plan_n, n, NULL, 0, NULL, 0), SHEET_SHEET_LENGTH) &&
+                                  answers(sheet_to_rows(plan_n, n, NULL, 0, NULL, 0), SHEET_SHEET_LENGTH));
+    expect("turned, no source", answers(sheet_to_columns(plan_n, n, NULL, 0, scan, 2), SHEET_SHEET_LENGTH) &&
+                                    answers(sheet_to_rows(plan_n, n, NULL, 0, sheet, 1), SHEET_SHEET_LENGTH));
+    expect("turned, no target", answers(sheet_to_columns(plan_n, n, sheet, 1, NULL, 0), SHEET_SHEET_LENGTH) &&
+                                    answers(sheet_to_rows(plan_n, n, scan, 2, NULL, 0), SHEET_SHEET_LENGTH));
+    expect("no sheet was changed", sheet[0] == 0 && sheet[1] == 0xaa && scan[0] == 0 && scan[1] == 0);
 
     expect("write, malloc(0)", answers(sheet_write(plan_n, sizeof plan_n, none, 0, sheet, 1), SHEET_OK));
     expect("read, malloc(0)", answers(sheet_read(plan_n, sizeof plan_n, sheet, 1, none, 0), SHEET_OK));

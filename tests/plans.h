@@ -1,4 +1,7 @@
-/* Plans that the tests in C share: S and T of document 01, and S so altered that it is turned back. */
+/*
+ * What the tests in C share of plans: S and T of document 01, S so altered that it is turned back, and the cells of the
+ * house plan.
+ */
 #ifndef PLANS_H
 #define PLANS_H
 
@@ -22,6 +25,9 @@ static const uint8_t plan_t[] = {
     0, 0, 0, 0, 0, 0, 0, 0, 1, 0, 0, 0, 2, 0, 0, 0,                         /* H */
     0, 0, 0, 0, 0, 0, 1, 0, 0, 0, 2, 0, 0, 0, 3, 0, 1, 0, 0, 0, 1, 0, 1, 0, /* check list */
 };
+
+/* Turns over the cell of the house plan at this row and column, of a sheet by rows: 88 bytes a row. */
+static inline void turn(uint8_t *sheet, size_t i, size_t j) { sheet[i * 88 + j / 8] ^= (uint8_t)(1u << j % 8); }
 
 /* What is told where something is turned back. */
 typedef struct {

@@ -44,8 +44,6 @@ static void end(stack s) {
     free(s.data);
 }
 
-static int same(const void *one, const void *other, size_t len) { return len == 0 || memcmp(one, other, len) == 0; }
-
 /* Under S, rooms 0, 1, 1: 03 03 01 is mended to 03 03 00, data 02; 03 00 00 cannot be; 03 83 40 has unused bits. */
 static void by_hand_s(void) {
     static const uint8_t rooms[] = {0, 1, 1}, sheets[] = {3, 3, 1, 3, 0, 0, 3, 0x83, 0x40};
@@ -243,9 +241,6 @@ static void by_themselves(void) {
                                    answer >> 63 == 0);
     expect("the sheet before", sheet_stack_answer(numbers, 0) == 0);
 }
-
-/* Turns over the cell of the house plan at this row and column: 88 bytes a row. */
-static void turn(uint8_t *sheet, size_t i, size_t j) { sheet[i * 88 + j / 8] ^= (uint8_t)(1u << j % 8); }
 
 /* Six sheets at full size: as written, with bursts in the first and the last corner, with two, with an unused bit. */
 static void house(void) {

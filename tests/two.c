@@ -20,12 +20,6 @@ typedef struct {
     size_t second_len;
 } pair;
 
-static uint8_t *copied(const void *bytes, size_t len) {
-    uint8_t *buffer = lent(len);
-    if (len > 0) memcpy(buffer, bytes, len);
-    return buffer;
-}
-
 static pair scans(const uint8_t *plan, size_t plan_len, const char *first, size_t first_len, const char *second,
                   size_t second_len) {
     pair two = {plan, plan_len, copied(first, first_len), first_len, copied(second, second_len), second_len};
@@ -166,9 +160,6 @@ static void one_buffer(void) {
     free(data);
     free(bytes);
 }
-
-/* Turns over the cell of the house plan at this row and column: 88 bytes a row. */
-static void turn(uint8_t *sheet, size_t i, size_t j) { sheet[i * 88 + j / 8] ^= (uint8_t)(1u << j % 8); }
 
 /* Bursts on either scan or both; data that differ in the last bit; a scan with too many cells wrong. */
 static void house(void) {

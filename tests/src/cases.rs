@@ -1,5 +1,5 @@
 //! The small plans of document 01 and what they do ("Small plans and what they do"), and sums of runs,
-//! alterations, pairs of scans and stacks that are worked out by hand.
+//! alterations, pairs of scans, stacks and sheets by columns that are worked out by hand.
 
 use std::ops::Range;
 
@@ -48,6 +48,22 @@ pub fn plan_two_rows() -> Plan {
         v: vec![1, 2, 4],
         h: vec![0, 0, 1, 2],
         checks: vec![(0, 0), (0, 1), (1, 0), (1, 1), (2, 0)],
+    }
+}
+
+/// No plan of 01, but one whose columns have two bytes: 9 rows of 2 cells, bursts of one cell. Row i has the V
+/// entry i + 1, and column j the H entry j.
+pub fn plan_tall() -> Plan {
+    Plan {
+        n1: 9,
+        n2: 2,
+        b1: 1,
+        b2: 1,
+        rv: 4,
+        rh: 1,
+        v: (1..=9).collect(),
+        h: vec![0, 1],
+        checks: vec![(0, 0), (0, 1), (1, 0), (3, 0), (7, 0)],
     }
 }
 
@@ -340,5 +356,76 @@ pub fn stack_cases() -> Vec<StackCase> {
             &[refused(13, 1), clean, mended(1, 0, 0, 1, 1)],
             &[0xbb, 0x01, 0x01],
         ),
+    ]
+}
+
+/// A plan, data, and the sheet that is written: by rows and by columns.
+pub type ColumnCase = (Plan, Vec<u8>, Vec<u8>, Vec<u8>);
+
+/// Worked out by hand from cases 2 and 5 and `alter_cases`. Row 0 is the lowest bit of a column's first byte.
+pub fn column_cases() -> Vec<ColumnCase> {
+    let case = |plan: Plan, data: &[u8], rows: &[u8], columns: &[u8]| {
+        (plan, data.to_vec(), rows.to_vec(), columns.to_vec())
+    };
+    vec![
+        case(plan_s(), &[0x00], &[0x00, 0x00, 0x00], &[0x00, 0x00, 0x00]),
+        // Rows 0 and 1 of columns 0 and 2; of columns 0 and 1, alike in both layouts.
+        case(plan_s(), &[0x01], &[0x05, 0x05, 0x00], &[0x03, 0x00, 0x03]),
+        case(plan_s(), &[0x02], &[0x03, 0x03, 0x00], &[0x03, 0x03, 0x00]),
+        // All rows of column 0, and rows 1 and 2 of the others.
+        case(plan_s(), &[0x1f], &[0x01, 0x07, 0x07], &[0x07, 0x06, 0x06]),
+        case(plan_t(), &[0x01], &[0x0a, 0x0a], &[0x00, 0x03, 0x00, 0x03]),
+        case(plan_t(), &[0x02], &[0x05, 0x05], &[0x03, 0x00, 0x03, 0x00]),
+        case(plan_t(), &[0x03], &[0x0f, 0x0f], &[0x03, 0x03, 0x03, 0x03]),
+        case(plan_two_rows(), &[0x01], &[0x03, 0x00, 0x03], &[0x05, 0x05]),
+        // The first data bit is (1, 1), in an odd row: V 2, H 1, as (0, 0), (0, 1) and (1, 0) have.
+        case(
+            plan_tall(),
+            &[0x01, 0x00],
+            &[0x03, 0x03, 0x00, 0x00, 0x00, 0x00, 0x00, 0x00, 0x00],
+            &[0x03, 0x00, 0x03, 0x00],
+        ),
+        // The last, the 13th, is (8, 1): V 9, H 1, as (0, 1) and (7, 0). Row 8 is in a column's second byte.
+        case(
+            plan_tall(),
+            &[0x00, 0x10],
+            &[0x02, 0x00, 0x00, 0x00, 0x00, 0x00, 0x00, 0x01, 0x02],
+            &[0x80, 0x00, 0x01, 0x01],
+        ),
+    ]
+}
+
+/// Sheets by columns, and what is read: those of cases 3, 4, 6 and 7, and others worked out by hand.
+pub fn column_read_cases() -> Vec<ReadCase> {
+    let case = |plan: Plan, sheet: &[u8], read: Option<([u64; 5], &[u8], &[u8])>| {
+        let read = read.map(|(numbers, mended, data)| (numbers, mended.to_vec(), data.to_vec()));
+        (plan, sheet.to_vec(), read)
+    };
+    vec![
+        case(plan_s(), &[0x07, 0x03, 0x00], Some(([1, 2, 0, 1, 1], &[0x03, 0x03, 0x00], &[0x02]))),
+        case(plan_s(), &[0x01, 0x01, 0x00], None),
+        case(plan_s(), &[0x02, 0x01, 0x01], None),
+        case(
+            plan_t(),
+            &[0x03, 0x01, 0x02, 0x00],
+            Some(([2, 0, 1, 1, 2], &[0x03, 0x00, 0x03, 0x00], &[0x02])),
+        ),
+        case(plan_t(), &[0x02, 0x00, 0x03, 0x01], None),
+        case(plan_t(), &[0x03, 0x00, 0x00, 0x00], None),
+        // 05 05 is written from data 01: rows 0 and 1 of column 1 turned over.
+        case(plan_two_rows(), &[0x05, 0x06], Some(([2, 0, 1, 2, 1], &[0x05, 0x05], &[0x01]))),
+        // (8, 0) turned over on the light sheet, and (8, 1) on that of the last data bit.
+        case(
+            plan_tall(),
+            &[0x00, 0x01, 0x00, 0x00],
+            Some(([1, 8, 0, 1, 1], &[0x00, 0x00, 0x00, 0x00], &[0x00, 0x00])),
+        ),
+        case(
+            plan_tall(),
+            &[0x80, 0x00, 0x01, 0x00],
+            Some(([1, 8, 1, 1, 1], &[0x80, 0x00, 0x01, 0x01], &[0x00, 0x10])),
+        ),
+        // Row 0 of both columns: V 1 ^ 1 = 0, H 0 ^ 1 = 1, which no cell has.
+        case(plan_tall(), &[0x01, 0x00, 0x01, 0x00], None),
     ]
 }

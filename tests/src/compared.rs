@@ -5,7 +5,7 @@ use std::ops::Range;
 use crate::answer::Answer;
 use crate::ffi::{house_plan, part, Library};
 use crate::given::{Given, HOUSE};
-use crate::model::{self, Cell, Sums};
+use crate::model::{self, by_columns, Cell, Layout, Sums};
 use crate::pairs::{difference_of, row_places};
 use crate::plan::Plan;
 use crate::rng::Rng;
@@ -96,26 +96,111 @@ impl Harness {
 
     /// Write by the library. Answer and sheet must be the model's.
     pub fn write(&mut self, plan: &[u8], data: &[u8], sheet_len: usize) -> u64 {
+        let by_model = |sheet: &mut [u8]| model::write(plan, data, sheet);
+        self.write_beside(Layout::Rows, plan, data, sheet_len, by_model).0
+    }
+
+    /// The same by columns.
+    pub fn write_by_column(&mut self, plan: &[u8], data: &[u8], sheet_len: usize) -> u64 {
+        let by_model = |sheet: &mut [u8]| model::write_by_column(plan, data, sheet);
+        self.write_beside(Layout::Columns, plan, data, sheet_len, by_model).0
+    }
+
+    /// The same under a plan that is known to be accepted, in a buffer of the right length; the answer, and
+    /// the sheet as it is left.
+    pub fn written_by_column(&mut self, plan: &Plan, data: &[u8]) -> (u64, Vec<u8>) {
+        let by_model = |sheet: &mut [u8]| model::write_by_column_accepted(plan, data, sheet);
+        let len = Layout::Columns.sheet_len(plan);
+        self.write_beside(Layout::Columns, &plan.encode(), data, len, by_model)
+    }
+
+    fn write_beside(
+        &mut self,
+        layout: Layout,
+        plan: &[u8],
+        data: &[u8],
+        sheet_len: usize,
+        by_model: impl FnOnce(&mut [u8]) -> Answer,
+    ) -> (u64, Vec<u8>) {
         let held = self.rng.bytes(sheet_len);
         let (mut expected, mut sheet) = (held.clone(), held);
-        let answer = self.library.write(plan, data, &mut sheet);
-        let told = model::write(plan, data, &mut expected);
+        let answer = self.library.write_in(layout, plan, data, &mut sheet);
+        let told = by_model(&mut expected);
         assert_eq!(answer, told.pack(), "library {:?}, model {told:?}", Answer::unpack(answer));
         assert!(sheet == expected, "the written sheet differs from the model's");
-        answer
+        (answer, sheet)
     }
 
     /// Read by the library. Answer, sheet and data must be the model's.
     pub fn read(&mut self, plan: &[u8], scan: &[u8], data_len: usize) -> u64 {
+        let by_model = |sheet: &mut [u8], data: &mut [u8]| model::read(plan, sheet, data);
+        self.read_beside(Layout::Rows, plan, scan, data_len, by_model).0
+    }
+
+    /// The same by columns.
+    pub fn read_by_column(&mut self, plan: &[u8], scan: &[u8], data_len: usize) -> u64 {
+        let by_model = |sheet: &mut [u8], data: &mut [u8]| model::read_by_column(plan, sheet, data);
+        self.read_beside(Layout::Columns, plan, scan, data_len, by_model).0
+    }
+
+    /// The same under a plan that is known to be accepted, with data of the right length; the answer, and
+    /// sheet and data as they are left.
+    pub fn columns_read(&mut self, plan: &Plan, scan: &[u8]) -> (u64, [Vec<u8>; 2]) {
+        let by_model =
+            |sheet: &mut [u8], data: &mut [u8]| model::read_by_column_accepted(plan, sheet, data);
+        self.read_beside(Layout::Columns, &plan.encode(), scan, plan.data_len(), by_model)
+    }
+
+    fn read_beside(
+        &mut self,
+        layout: Layout,
+        plan: &[u8],
+        scan: &[u8],
+        data_len: usize,
+        by_model: impl FnOnce(&mut [u8], &mut [u8]) -> Answer,
+    ) -> (u64, [Vec<u8>; 2]) {
         let held = self.rng.bytes(data_len);
         let (mut expected, mut expected_data) = (scan.to_vec(), held.clone());
         let (mut sheet, mut data) = (scan.to_vec(), held);
-        let answer = self.library.read(plan, &mut sheet, &mut data);
-        let told = model::read(plan, &mut expected, &mut expected_data);
+        let answer = self.library.read_in(layout, plan, &mut sheet, &mut data);
+        let told = by_model(&mut expected, &mut expected_data);
         assert_eq!(answer, told.pack(), "library {:?}, model {told:?}", Answer::unpack(answer));
         assert!(sheet == expected, "the sheet differs from the model's");
         assert!(data == expected_data, "the data differs from the model's");
-        answer
+        (answer, [sheet, data])
+    }
+
+    /// Turn a sheet from this layout into the other by the library, into a buffer of this length. Answer and
+    /// every byte of it must be the model's.
+    pub fn turn(&mut self, from: Layout, plan: &[u8], source: &[u8], target_len: usize) -> u64 {
+        let by_model = |target: &mut [u8]| model::turn(from, plan, source, target);
+        self.turn_beside(from, plan, source, target_len, by_model).0
+    }
+
+    /// The same under a plan that is known to be accepted, into a buffer of the right length; the answer, and
+    /// the buffer as it is left.
+    pub fn turned_from(&mut self, from: Layout, plan: &Plan, source: &[u8]) -> (u64, Vec<u8>) {
+        let by_model = |target: &mut [u8]| model::turn_accepted(from, plan, source, target);
+        let len = from.other().sheet_len(plan);
+        self.turn_beside(from, &plan.encode(), source, len, by_model)
+    }
+
+    fn turn_beside(
+        &mut self,
+        from: Layout,
+        plan: &[u8],
+        source: &[u8],
+        target_len: usize,
+        by_model: impl FnOnce(&mut [u8]) -> Answer,
+    ) -> (u64, Vec<u8>) {
+        let held = self.rng.bytes(target_len);
+        let (mut expected, mut target) = (held.clone(), held);
+        let answer = self.library.turn(from, plan, source, &mut target);
+        let told = by_model(&mut expected);
+        let both = format!("library {:?}, model {told:?}, from {from:?}", Answer::unpack(answer));
+        assert_eq!(answer, told.pack(), "{both}");
+        assert!(target == expected, "the target differs from the model's: {both}");
+        (answer, target)
     }
 
     /// The sums of a run by the library, in a buffer of this length. Answer and every byte of it must be
@@ -294,13 +379,34 @@ impl Harness {
     /// Demand 3: from the written sheet with a burst on it, the library gives back every byte of
     /// the sheet, the data, the number of cells and the smallest rectangle that holds them.
     pub fn mends(&mut self, written: &Written, burst: &[Cell]) {
+        self.mends_in(Layout::Rows, written, burst);
+    }
+
+    /// The same of the sheet in this layout.
+    pub fn mends_in(&mut self, layout: Layout, written: &Written, burst: &[Cell]) {
         let Written { plan, bytes, data, sheet } = written;
-        let mut scan = turned(plan, sheet, burst);
+        let mut scan = layout.of_rows(plan, turned(plan, sheet, burst));
         let mut text = self.rng.bytes(data.len());
-        let answer = self.library.read(bytes, &mut scan, &mut text);
+        let answer = self.library.read_in(layout, bytes, &mut scan, &mut text);
         assert_eq!(answer, model::smallest_rectangle(burst).pack(), "{burst:?} under {plan:?}");
-        assert!(scan == *sheet, "{burst:?} left a trace under {plan:?}");
+        assert!(scan == layout.of_rows(plan, sheet.clone()), "{burst:?} left a trace: {plan:?}");
         assert!(text == *data, "{burst:?} spoilt the data under {plan:?}");
+    }
+
+    /// 02 i): a sheet by rows of the right form is read by rows, and turned it is read by columns. The answers
+    /// are the same, and so are the data; and what is left by columns is what is left by rows, turned.
+    pub fn reads_alike(&mut self, plan: &Plan, sheet: &[u8]) -> u64 {
+        let (bytes, held) = (plan.encode(), self.rng.bytes(plan.data_len()));
+        let (mut rows, mut data) = (sheet.to_vec(), held.clone());
+        let answer = self.library.read(&bytes, &mut rows, &mut data);
+        let (mut columns, mut other_data) = (by_columns(plan, sheet), held);
+        let by_column =
+            self.library.read_in(Layout::Columns, &bytes, &mut columns, &mut other_data);
+        let [one, other] = [answer, by_column].map(Answer::unpack);
+        assert_eq!(one, other, "by rows on the left, by columns on the right: {plan:?}");
+        assert!(data == other_data, "the data differ under {plan:?}");
+        assert!(columns == by_columns(plan, &rows), "what is left differs under {plan:?}");
+        answer
     }
 }
 

@@ -1,6 +1,7 @@
 //! Plans with something wrong: most are refused, a few are still accepted. Other buffers with a wrong
 //! length or an unused bit that is 1.
 
+use crate::model::Layout;
 use crate::plan::{field, header_field, set_header_field, Plan};
 use crate::rng::Rng;
 
@@ -141,9 +142,14 @@ pub fn set_unused_of_data(plan: &Plan, data: &mut [u8], rng: &mut Rng) {
 
 /// Set an unused bit of some row of the sheet, if there is any.
 pub fn set_unused_of_sheet(plan: &Plan, sheet: &mut [u8], rng: &mut Rng) {
-    let unused = 8 * plan.row_len() - plan.n2;
+    set_unused_in(Layout::Rows, plan, sheet, rng);
+}
+
+/// Set an unused bit of some line of the sheet in this layout, if there is any.
+pub fn set_unused_in(layout: Layout, plan: &Plan, sheet: &mut [u8], rng: &mut Rng) {
+    let unused = layout.unused_bits(plan).count_ones() as usize;
     if unused > 0 {
-        let row_end = rng.within(1, plan.n1) * plan.row_len() - 1;
-        sheet[row_end] |= 0x80 >> rng.below(unused);
+        let line_end = rng.within(1, layout.lines(plan)) * layout.line_len(plan) - 1;
+        sheet[line_end] |= 0x80 >> rng.below(unused);
     }
 }

@@ -1,10 +1,11 @@
-//! An independent model of the product of document 01 (01-scope.md) and of requests a and c to h of
+//! An independent model of the product of document 01 (01-scope.md) and of requests a and c to i of
 //! document 02 (02-change-requests.md), written from their words alone, and what the tests and timings
 //! of libsheet.a need beside it.
 //!
 //! Words: a row is a course of 01, a column a needle, a burst a blot, a syndrome the two sums of a
 //! sheet, a check cell a cell of the check list, a scan a sheet as one head read it from the film. A stack
-//! is sheets in one buffer, each with a room.
+//! is sheets in one buffer, each with a room. A sheet lies in bytes by rows or by columns, and is turned from
+//! one layout into the other.
 
 pub mod answer;
 pub mod cases;
@@ -16,6 +17,7 @@ pub mod ffi;
 pub mod given;
 pub mod header;
 pub mod house;
+pub mod kinds;
 pub mod line;
 pub mod make;
 pub mod model;

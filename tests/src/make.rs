@@ -1,5 +1,6 @@
 //! Plans made to be accepted.
 
+use crate::cases::{plan_s, plan_t, plan_tall, plan_two_rows};
 use crate::model::{self, Span};
 use crate::plan::Plan;
 use crate::rng::Rng;
@@ -139,6 +140,19 @@ pub fn powers_1x1(order: CellOrder, rng: &mut Rng) -> Plan {
     square(1, table(512), table(698), order, rng)
 }
 
+/// The accepted plan with bursts of one cell and the fewest check cells on n1 rows, at most 512, and n2 columns,
+/// at most 698: row i has the V entry i + 1, and column j the H entry j; but if there is one column alone, it
+/// has 1. Sheets of 1 × 1 and of 2 × 1 cells have too few for it.
+pub fn least_1x1(n1: usize, n2: usize, order: CellOrder, rng: &mut Rng) -> Plan {
+    let table = |entries: Vec<u32>| {
+        let widths = entries.iter().map(|entry| entry.checked_ilog2().unwrap_or(0) + 1);
+        (widths.max().expect("there is an entry") as usize, entries)
+    };
+    let v = (1..=n1 as u32).collect();
+    let h = if n2 == 1 { vec![1] } else { (0..n2 as u32).collect() };
+    square(1, table(v), table(h), order, rng)
+}
+
 /// The accepted plan with 3 × 3 bursts on n1 rows, at most 512, and n2 columns, at most 698, with
 /// the fewest check cells that tables of powers allow at full size.
 pub fn powers_3x3(n1: usize, n2: usize, order: CellOrder, rng: &mut Rng) -> Plan {
@@ -246,4 +260,29 @@ fn with_random_tables(rng: &mut Rng, shape: Plan) -> Plan {
     let v = table(shape.n1 * shape.b2, shape.rv);
     let h = table(shape.n2 * shape.b1, shape.rh);
     Plan { v, h, ..shape }
+}
+
+/// Plans of sizes about multiples of 8, thin ones, and such as have several bytes in rows or in columns.
+pub fn plans_of_many_sizes(rng: &mut Rng) -> Vec<Plan> {
+    let sizes = [
+        (1, 2),
+        (1, 23),
+        (3, 1),
+        (23, 1),
+        (7, 8),
+        (8, 7),
+        (8, 16),
+        (16, 8),
+        (9, 15),
+        (15, 9),
+        (17, 64),
+        (64, 17),
+        (65, 31),
+        (31, 65),
+    ];
+    let order = CellOrder::Scattered;
+    let mut plans = vec![plan_s(), plan_t(), plan_two_rows(), plan_tall(), no_data()];
+    plans.extend(sizes.map(|(n1, n2)| least_1x1(n1, n2, order, rng)));
+    plans.extend([powers_3x3(20, 13, order, rng), powers_3x3(13, 20, order, rng)]);
+    plans
 }

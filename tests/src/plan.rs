@@ -136,8 +136,14 @@ impl Plan {
         self.n2.div_ceil(8)
     }
 
+    /// Bytes of a sheet by rows.
     pub fn sheet_len(&self) -> usize {
         self.n1 * self.row_len()
+    }
+
+    /// Bytes of one column of a sheet by columns.
+    pub fn column_len(&self) -> usize {
+        self.n1.div_ceil(8)
     }
 
     /// k, the number of data bits. The check cells must lie on the sheet.

@@ -1,6 +1,6 @@
 //! Positions of data bits, and what an alteration may turn over.
 
-use crate::model::{cell, data_cells, Cell};
+use crate::model::{cell, cells, data_cells, Cell};
 use crate::plan::Plan;
 use crate::rng::Rng;
 
@@ -36,8 +36,7 @@ pub fn cell_of(plan: &Plan, position: u32) -> Cell {
 
 /// The cells in which two sheets differ, other than check cells, in sheet order.
 pub fn differing_data_cells(plan: &Plan, left: &[u8], right: &[u8]) -> Vec<Cell> {
-    let cells = (0..plan.n1).flat_map(|i| (0..plan.n2).map(move |j| (i, j)));
     let differs = |&at: &Cell| cell(plan, left, at) != cell(plan, right, at);
     let is_check = |&(i, j): &Cell| plan.checks.binary_search(&(i as u16, j as u16)).is_ok();
-    cells.filter(differs).filter(|at| !is_check(at)).collect()
+    cells(plan).filter(differs).filter(|at| !is_check(at)).collect()
 }

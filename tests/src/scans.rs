@@ -50,6 +50,15 @@ pub fn burst(plan: &Plan, top: usize, left: usize, pattern: u32) -> Vec<Cell> {
     inside.map(|at| (top + at / plan.b2, left + at % plan.b2)).collect()
 }
 
+/// Every pattern in every rectangle of a burst's size, as its cells. Some have the same cells.
+pub fn every_burst(plan: &Plan) -> impl Iterator<Item = Vec<Cell>> + '_ {
+    let (bottom, right) = (plan.n1 - plan.b1, plan.n2 - plan.b2);
+    let corners = (0..=bottom).flat_map(move |top| (0..=right).map(move |left| (top, left)));
+    corners.flat_map(move |(top, left)| {
+        (0..1 << (plan.b1 * plan.b2)).map(move |pattern| burst(plan, top, left, pattern))
+    })
+}
+
 /// The sheet with these cells turned over.
 pub fn turned(plan: &Plan, sheet: &[u8], cells: &[Cell]) -> Vec<u8> {
     let mut sheet = sheet.to_vec();

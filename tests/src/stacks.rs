@@ -4,12 +4,9 @@
 use std::ops::Range;
 
 use crate::answer::Answer;
-use crate::damage::set_unused_of_sheet;
-use crate::model;
-use crate::pairs::hopeless;
+use crate::kinds::{sheet_of, KINDS};
 use crate::plan::Plan;
 use crate::rng::Rng;
-use crate::scans::{random_burst, random_data, turned};
 
 /// How many sheets the stacks have that are read by the thousands.
 pub const COUNTS: [usize; 5] = [0, 1, 2, 17, 64];
@@ -20,39 +17,6 @@ pub struct Lent {
     pub stack: Vec<u8>,
     pub numbers: Vec<u8>,
     pub data: Vec<u8>,
-}
-
-/// What a sheet of a stack is.
-#[derive(Clone, Copy, Debug, PartialEq, Eq)]
-pub enum Kind {
-    Written,
-    Burst,
-    Hopeless,
-    Unused,
-    Anything,
-}
-
-pub const KINDS: [Kind; 5] =
-    [Kind::Written, Kind::Burst, Kind::Hopeless, Kind::Unused, Kind::Anything];
-
-/// A sheet of this kind: as written; with a burst; such as no burst mends, if one is found; with unused bits
-/// that are 1, if rows have any, and a burst or not; any bytes.
-pub fn sheet_of(plan: &Plan, kind: Kind, rng: &mut Rng) -> Vec<u8> {
-    let written = model::write_sheet(plan, &random_data(plan, rng));
-    match kind {
-        Kind::Written => written,
-        Kind::Burst => turned(plan, &written, &random_burst(plan, rng)),
-        Kind::Hopeless => hopeless(plan, rng).unwrap_or(written),
-        Kind::Unused => {
-            let of = rng.pick(&[Kind::Written, Kind::Burst, Kind::Hopeless]);
-            let mut sheet = sheet_of(plan, of, rng);
-            for _ in 0..rng.within(1, 3) {
-                set_unused_of_sheet(plan, &mut sheet, rng);
-            }
-            sheet
-        }
-        Kind::Anything => rng.bytes(plan.sheet_len()),
-    }
 }
 
 /// So many sheets of random kinds.

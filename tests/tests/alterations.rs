@@ -87,8 +87,7 @@ fn sheets_that_do_not_belong() {
             if plan.data_bits() == 0 {
                 continue;
             }
-            let cells = (0..plan.n1).flat_map(|i| (0..plan.n2).map(move |j| (i, j)));
-            for cell in cells {
+            for cell in model::cells(&plan) {
                 let position = harness.rng.below(plan.data_bits()) as u32;
                 let (answer, _) = harness.altered(&plan, &turned(&plan, &sheet, &[cell]), position);
                 assert_eq!(answer, 18, "{cell:?} wrong under {plan:?}");

@@ -6,7 +6,7 @@ use sheet_tests::compared::{Harness, Written};
 use sheet_tests::damage::{alter_length, damaged, set_unused_of_data, set_unused_of_sheet};
 use sheet_tests::ffi::Library;
 use sheet_tests::make::{accepted, burst_sizes, largest_4x4, powers_1x1, powers_3x3, CellOrder};
-use sheet_tests::scans::{burst, every_sheet, random_burst, random_sheet, turned};
+use sheet_tests::scans::{burst, every_burst, every_sheet, random_burst, random_sheet, turned};
 use sheet_tests::tally::Tally;
 
 /// Cases 2 to 7 of 01.
@@ -62,13 +62,9 @@ fn every_burst_of_small_plans() {
         for _ in 0..count {
             let plan = accepted(&mut harness.rng, b1, b2, more);
             let written = harness.written(plan);
-            for top in 0..=written.plan.n1 - b1 {
-                for left in 0..=written.plan.n2 - b2 {
-                    for pattern in 0..1 << (b1 * b2) {
-                        harness.mends(&written, &burst(&written.plan, top, left, pattern));
-                        bursts += 1;
-                    }
-                }
+            for cells in every_burst(&written.plan) {
+                harness.mends(&written, &cells);
+                bursts += 1;
             }
             plans += 1;
         }

@@ -3,12 +3,13 @@
 use sheet_tests::answer::Answer;
 use sheet_tests::cases::{plan_s, plan_t};
 use sheet_tests::ffi::{
-    alter, first_difference, house_plan, part, plan_make, read_stack, read_two, sums, SHEET,
+    alter, first_difference, house_plan, part, plan_make, read_stack, read_two, sums, turn,
+    BY_COLUMN, SHEET,
 };
 use sheet_tests::given::{Given, HOUSE};
 use sheet_tests::header::constant;
 use sheet_tests::make::no_data;
-use sheet_tests::model;
+use sheet_tests::model::{self, Layout};
 use sheet_tests::pairs::difference_of;
 use sheet_tests::plan::HEADER_LEN;
 use sheet_tests::rng::Rng;
@@ -104,6 +105,53 @@ fn null_where_the_length_is_0() {
     }
     assert_eq!(house_plan(&mut [], true), 5);
     assert_eq!(Answer::unpack(null.plan_test(&[])), Answer::refusal(1, 0, 0));
+}
+
+/// The same for sheets by columns: written, and read.
+#[test]
+fn null_columns() {
+    let null = BY_COLUMN.with_null();
+    let with_data = [0, 1, 12, 1, 11, 1, 11, 1];
+    let without = [0, 1, 0, 1, 11, 1, 11, 1];
+    for (plan, numbers) in [(plan_s(), with_data), (plan_t(), with_data), (no_data(), without)] {
+        for (empty, number) in numbers.into_iter().enumerate() {
+            let bytes = kept(empty, 0, plan.encode());
+            let data = kept(empty, 1, vec![0; plan.data_len()]);
+            let sheet = kept(empty, 2, vec![0; Layout::Columns.sheet_len(&plan)]);
+
+            let (mut wrote, mut expected) = (sheet.clone(), sheet.clone());
+            let told = model::write_by_column(&bytes, &data, &mut expected);
+            assert_eq!(told.number, number, "{empty}");
+            assert_eq!(null.write(&bytes, &data, &mut wrote), told.pack());
+            assert_eq!(wrote, expected);
+
+            let (mut scan, mut into) = (sheet.clone(), data.clone());
+            let (mut expected, mut expected_into) = (sheet, data);
+            let told = model::read_by_column(&bytes, &mut expected, &mut expected_into);
+            assert_eq!(told.number, number, "{empty}");
+            assert_eq!(null.read(&bytes, &mut scan, &mut into), told.pack());
+            assert_eq!((scan, into), (expected, expected_into));
+        }
+    }
+}
+
+/// The same for turning, either way: the plan, the source and the target.
+#[test]
+fn null_turned() {
+    for plan in [plan_s(), plan_t(), no_data()] {
+        for from in Layout::BOTH {
+            for (empty, number) in [0, 1, 11, 1, 11, 1, 11, 1].into_iter().enumerate() {
+                let bytes = kept(empty, 0, plan.encode());
+                let source = kept(empty, 1, vec![1; from.sheet_len(&plan)]);
+                let held = kept(empty, 2, vec![0xaa; from.other().sheet_len(&plan)]);
+                let (mut target, mut expected) = (held.clone(), held);
+                let told = model::turn(from, &bytes, &source, &mut expected);
+                assert_eq!(told.number, number, "{empty}");
+                assert_eq!(turn(from, &bytes, &source, &mut target, true), told.pack());
+                assert_eq!(target, expected);
+            }
+        }
+    }
 }
 
 /// The same for the sums of a run: the plan, the sheet and the sums.

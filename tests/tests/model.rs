@@ -14,7 +14,7 @@ use sheet_tests::make::{
 use sheet_tests::model;
 use sheet_tests::plan::Plan;
 use sheet_tests::rng::Rng;
-use sheet_tests::scans::{burst, random_burst, random_data, turned};
+use sheet_tests::scans::{every_burst, random_burst, random_data, turned};
 use sheet_tests::yardstick;
 
 #[test]
@@ -208,15 +208,9 @@ fn different_bursts_differ_in_syndrome() {
             let plan = accepted(&mut rng, b1, b2, 4);
             let mut bursts = BTreeSet::new();
             let mut syndromes = BTreeSet::new();
-            for top in 0..=plan.n1 - b1 {
-                for left in 0..=plan.n2 - b2 {
-                    for pattern in 0..1 << (b1 * b2) {
-                        let cells = burst(&plan, top, left, pattern);
-                        syndromes
-                            .insert(cells.iter().fold(0, |sum, &(i, j)| sum ^ plan.joint(i, j)));
-                        bursts.insert(cells);
-                    }
-                }
+            for cells in every_burst(&plan) {
+                syndromes.insert(cells.iter().fold(0, |sum, &(i, j)| sum ^ plan.joint(i, j)));
+                bursts.insert(cells);
             }
             assert_eq!(bursts.len(), syndromes.len());
         }

@@ -1,15 +1,17 @@
-//! The model of 02's requests e to h tested by itself: sums of runs, alterations, two scans, stacks.
+//! The model of 02's requests e to i tested by itself: sums of runs, alterations, two scans, stacks, sheets by columns.
 //! Nothing here calls the library (`cargo test --no-default-features --test requests`).
 
 use std::collections::BTreeSet;
 
 use sheet_tests::answer::Answer;
 use sheet_tests::cases::{
-    alter_cases, plan_s, plan_t, plan_two_rows, run_cases, stack_cases, two_cases,
+    alter_cases, column_cases, column_read_cases, plan_s, plan_t, plan_tall, plan_two_rows,
+    run_cases, stack_cases, two_cases,
 };
-use sheet_tests::make::{accepted, burst_sizes, no_data};
-use sheet_tests::model;
+use sheet_tests::make::{accepted, burst_sizes, least_1x1, no_data, CellOrder};
+use sheet_tests::model::{self, Cell, Layout};
 use sheet_tests::pairs::row_places;
+use sheet_tests::plan::Plan;
 use sheet_tests::positions::differing_data_cells;
 use sheet_tests::rng::Rng;
 use sheet_tests::runs::{joined, random_end, whole};
@@ -199,6 +201,117 @@ fn sheets_of_stacks() {
             let Lent { stack, numbers, data } = &mut lent;
             assert_eq!(model::read_stack_accepted(&plan, stack, numbers, data), Answer::default());
             assert_eq!(lent, expected);
+        }
+    }
+}
+
+/// Sheets by columns worked out by hand. The plans that are not of 01 are accepted.
+#[test]
+fn worked_columns() {
+    assert_eq!(model::test_plan(&plan_tall().encode()), Answer::default());
+    for (plan, data, rows, columns) in column_cases() {
+        let bytes = plan.encode();
+        let mut sheet = vec![0xaa; columns.len()];
+        assert_eq!(model::write_by_column(&bytes, &data, &mut sheet), Answer::default());
+        assert_eq!(sheet, columns);
+        for (from, source, target) in
+            [(Layout::Rows, &rows, &columns), (Layout::Columns, &columns, &rows)]
+        {
+            let mut into = vec![0xaa; target.len()];
+            assert_eq!(model::turn(from, &bytes, source, &mut into), Answer::default());
+            assert_eq!(into, *target);
+        }
+    }
+    for (plan, mut sheet, expected) in column_read_cases() {
+        let mut data = vec![0xaa; plan.data_len()];
+        let answer = model::read_by_column(&plan.encode(), &mut sheet, &mut data);
+        match expected {
+            Some((numbers, mended, text)) => {
+                assert_eq!((answer.number, answer.mended()), (0, numbers));
+                assert_eq!((sheet, data), (mended, text));
+            }
+            None => assert_eq!(answer, Answer::refusal(14, 0, 0)),
+        }
+    }
+}
+
+/// 02 i), by the bare definition: the dark cells of a sheet by columns. Bit b of byte a of column j's bytes is row
+/// 8 a + b.
+fn dark_cells(plan: &Plan, columns: &[u8]) -> BTreeSet<Cell> {
+    let of_column = plan.n1.div_ceil(8);
+    assert_eq!(columns.len(), plan.n2 * of_column);
+    let bits = (0..8 * columns.len()).filter(|bit| columns[bit / 8] >> (bit % 8) & 1 == 1);
+    bits.map(|bit| (bit % (8 * of_column), bit / (8 * of_column))).collect()
+}
+
+/// Sheets of many sizes turned: the dark cells are the same, and all are on the sheet; back again, so are the bytes.
+/// Plans of every size have been accepted for it.
+#[test]
+fn turned_cell_for_cell() {
+    let mut rng = Rng::new(24);
+    let mut plans: Vec<_> = burst_sizes().map(|(b1, b2)| accepted(&mut rng, b1, b2, 20)).collect();
+    for (n1, n2) in [(1, 2), (1, 17), (3, 1), (17, 1), (8, 8), (7, 9), (9, 7), (64, 33), (33, 64)] {
+        plans.push(least_1x1(n1, n2, CellOrder::Scattered, &mut rng));
+    }
+    for plan in plans {
+        assert_eq!(model::test_plan(&plan.encode()), Answer::default());
+        for _ in 0..20 {
+            let sheet = random_sheet(&plan, &mut rng);
+            let mut columns = rng.bytes(plan.n2 * plan.n1.div_ceil(8));
+            let there = model::turn_accepted(Layout::Rows, &plan, &sheet, &mut columns);
+            let dark = model::cells(&plan).filter(|&at| model::cell(&plan, &sheet, at)).collect();
+            assert_eq!((there, dark_cells(&plan, &columns)), (Answer::default(), dark));
+            let mut back = rng.bytes(sheet.len());
+            let told = model::turn_accepted(Layout::Columns, &plan, &columns, &mut back);
+            assert_eq!((told, back), (Answer::default(), sheet));
+        }
+    }
+}
+
+/// 02 i), by the bare definitions, for all sheets by columns of the smallest plans: of those that have both sums 0, the
+/// one that is written holds the data in the cells that are not check cells; and a sheet is mended to the one that
+/// differs from it in cells of one rectangle of the plan's size.
+#[test]
+fn along_the_columns() {
+    for plan in [plan_s(), plan_t(), plan_two_rows(), no_data()] {
+        let all: Vec<_> =
+            every_sheet(&plan).map(|sheet| model::by_columns(&plan, &sheet)).collect();
+        let dark: BTreeSet<_> = all.iter().map(|sheet| dark_cells(&plan, sheet)).collect();
+        assert_eq!(dark.len(), 1 << (plan.n1 * plan.n2));
+        let sum = |sheet: &[u8]| {
+            dark_cells(&plan, sheet).iter().fold(0, |sum, &(i, j)| sum ^ plan.joint(i, j))
+        };
+        let belonging: Vec<_> = all.iter().filter(|sheet| sum(sheet) == 0).collect();
+        assert_eq!(belonging.len(), 1 << plan.data_bits());
+        let held = |sheet: &[u8]| {
+            let mut data = vec![0; plan.data_len()];
+            for (bit, cell) in model::data_cells(&plan).enumerate() {
+                data[bit / 8] |= u8::from(dark_cells(&plan, sheet).contains(&cell)) << (bit % 8);
+            }
+            data
+        };
+        for sheet in &belonging {
+            let mut written = vec![0xaa; sheet.len()];
+            model::write_by_column_accepted(&plan, &held(sheet), &mut written);
+            assert_eq!(written, **sheet);
+        }
+        for sheet in &all {
+            let turned_over = |other: &[u8]| -> Vec<Cell> {
+                let [one, other] = [sheet, other].map(|sheet| dark_cells(&plan, sheet));
+                one.symmetric_difference(&other).copied().collect()
+            };
+            let told = |other: &[u8]| model::smallest_rectangle(&turned_over(other));
+            let [height, width] = [plan.b1, plan.b2].map(|size| size as u64);
+            let fits =
+                |other: &&&Vec<u8>| told(other).height <= height && told(other).width <= width;
+            let mended: Vec<_> = belonging.iter().filter(fits).collect();
+            let (mut left, mut data) = (sheet.clone(), vec![0xaa; plan.data_len()]);
+            let answer = model::read_by_column_accepted(&plan, &mut left, &mut data);
+            match mended[..] {
+                [] => assert_eq!((answer, &left), (Answer::refusal(14, 0, 0), sheet)),
+                [one] => assert_eq!((answer, &left, data), (told(one), *one, held(one))),
+                _ => panic!("two sheets that belong are one burst away"),
+            }
         }
     }
 }

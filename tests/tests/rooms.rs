@@ -4,13 +4,12 @@
 use sheet_tests::answer::Answer;
 use sheet_tests::compared::{house_by_call, Harness};
 use sheet_tests::damage::{alter_length, damaged};
+use sheet_tests::kinds::{sheet_of, Kind, KINDS};
 use sheet_tests::make::{accepted, burst_sizes};
 use sheet_tests::model::{self, smallest_rectangle};
 use sheet_tests::plan::Plan;
 use sheet_tests::scans::{random_burst, random_data, turned};
-use sheet_tests::stacks::{
-    bad_stacks, places, random_rooms, sheet_of, told_of, Kind, Lent, COUNTS, KINDS,
-};
+use sheet_tests::stacks::{bad_stacks, places, random_rooms, told_of, Lent, COUNTS};
 use sheet_tests::tally::Tally;
 
 /// 02 h): each sheet is read as if it were alone. Its bytes, its numbers and its data are those that sheet_read

@@ -6,14 +6,13 @@ use sheet_tests::answer::Answer;
 use sheet_tests::cases::{plan_for_each_number, plan_s, plan_t, plan_two_rows, stack_cases};
 use sheet_tests::compared::Harness;
 use sheet_tests::damage::{alter_length, damaged};
+use sheet_tests::kinds::{sheet_of, Kind};
 use sheet_tests::make::{accepted, burst_sizes, no_data, powers_3x3, CellOrder};
 use sheet_tests::model;
 use sheet_tests::pairs::hopeless;
 use sheet_tests::plan::Plan;
 use sheet_tests::scans::{every_sheet, random_burst, turned};
-use sheet_tests::stacks::{
-    bad_stacks, places, random_rooms, sheet_of, stack_of, told_of, Kind, Lent,
-};
+use sheet_tests::stacks::{bad_stacks, places, random_rooms, stack_of, told_of, Lent};
 use sheet_tests::tally::Tally;
 
 /// S and T: what was worked out by hand, with the numbers and the data of refused sheets whatever they held.

@@ -4,14 +4,15 @@ use std::thread;
 
 use sheet_tests::answer::Answer;
 use sheet_tests::ffi::{
-    alter, first_difference, house_plan, plan_make, read_stack, read_two, sums, SHEET,
+    alter, first_difference, house_plan, plan_make, read_stack, read_two, sums, turn, Archive,
+    SHEET,
 };
 use sheet_tests::given::{Given, HOUSE};
 use sheet_tests::header::constant;
 use sheet_tests::make::{
     largest_4x4, powers_1x1, powers_3x3, CellOrder, H_3X3, H_4X4, H_EVEN, SINGLE, V_EVEN, WIDE,
 };
-use sheet_tests::model;
+use sheet_tests::model::{self, Layout};
 use sheet_tests::pairs::{difference_of, hopeless, row_places};
 use sheet_tests::plan::Plan;
 use sheet_tests::rng::Rng;
@@ -85,29 +86,68 @@ fn stack_of_the_plan_test() {
     }
 }
 
-/// The scan has a full burst in the last corner, where a search in sheet order comes last.
-#[test]
-fn stack_of_writing_and_reading() {
-    let enough = constant("SHEET_WRITE_READ_STACK");
-    let mut rng = Rng::new(2);
-    for plan in large_plans(&mut rng) {
+/// Writing and reading sheets in this layout. The scan has a full burst in the last corner, where a search in sheet
+/// order comes last.
+fn writes_and_reads(layout: Layout, enough: usize, rng: &mut Rng) {
+    let archive = Archive::of(layout);
+    for plan in large_plans(rng) {
         let bytes = plan.encode();
-        let data = random_data(&plan, &mut rng);
-        let written = model::write_sheet(&plan, &data);
+        let data = random_data(&plan, rng);
+        let by_rows = model::write_sheet(&plan, &data);
+        let written = layout.of_rows(&plan, by_rows.clone());
 
         let (bytes_there, data_there, mut sheet) = (bytes.clone(), data.clone(), written.clone());
         sheet.fill(0xff);
-        let (answer, sheet) =
-            with_stack(enough, move || (SHEET.write(&bytes_there, &data_there, &mut sheet), sheet));
+        let (answer, sheet) = with_stack(enough, move || {
+            (archive.write(&bytes_there, &data_there, &mut sheet), sheet)
+        });
         assert!(answer == 0 && sheet == written);
 
         let cells = burst(&plan, plan.n1 - plan.b1, plan.n2 - plan.b2, u32::MAX);
-        let mut scan = turned(&plan, &written, &cells);
+        let mut scan = layout.of_rows(&plan, turned(&plan, &by_rows, &cells));
         let mut into = vec![0xff; data.len()];
         let (answer, scan, into) =
-            with_stack(enough, move || (SHEET.read(&bytes, &mut scan, &mut into), scan, into));
+            with_stack(enough, move || (archive.read(&bytes, &mut scan, &mut into), scan, into));
         assert_eq!(answer, model::smallest_rectangle(&cells).pack());
         assert!(scan == written && into == data);
+    }
+}
+
+#[test]
+fn stack_of_writing_and_reading() {
+    writes_and_reads(Layout::Rows, constant("SHEET_WRITE_READ_STACK"), &mut Rng::new(2));
+}
+
+#[test]
+fn stack_of_writing_and_reading_by_column() {
+    writes_and_reads(Layout::Columns, constant("SHEET_BY_COLUMN_STACK"), &mut Rng::new(8));
+}
+
+/// The dark sheet turned either way, and one with an unused bit in its last line, if there is one. With 511 rows both
+/// layouts have some.
+#[test]
+fn stack_of_turning() {
+    let enough = constant("SHEET_TURN_STACK");
+    let mut rng = Rng::new(9);
+    let odd = powers_3x3(511, 698, CellOrder::Sheet, &mut rng);
+    for plan in large_plans(&mut rng).into_iter().chain([odd]) {
+        for from in Layout::BOTH {
+            let good = from.of_rows(&plan, dark_sheet(&plan));
+            let mut bad = good.clone();
+            bad[from.sheet_len(&plan) - 1] |= 0x80;
+            for source in [good, bad] {
+                let bytes = plan.encode();
+                let mut target = vec![0xaa; from.other().sheet_len(&plan)];
+                let mut expected = target.clone();
+                let told = model::turn_accepted(from, &plan, &source, &mut expected);
+                let (answer, target) = with_stack(enough, move || {
+                    let answer = turn(from, &bytes, &source, &mut target, false);
+                    (answer, target)
+                });
+                assert_eq!(Answer::unpack(answer), told);
+                assert!(target == expected, "from {from:?}");
+            }
+        }
     }
 }
 

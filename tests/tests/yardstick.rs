@@ -1,9 +1,10 @@
 //! The Rust that the library is timed against, beside the model.
 //! Nothing here calls the library.
 
-use sheet_tests::damage::{alter_length, damaged, set_unused_of_sheet};
+use sheet_tests::damage::{alter_length, damaged, set_unused_of_data, set_unused_of_sheet};
+use sheet_tests::kinds::{sheet_in, KINDS};
 use sheet_tests::make::{accepted, burst_sizes};
-use sheet_tests::model;
+use sheet_tests::model::{self, Layout};
 use sheet_tests::positions::random_position;
 use sheet_tests::rng::Rng;
 use sheet_tests::runs::random_run;
@@ -190,4 +191,54 @@ fn yardstick_of_stacks_agrees() {
     }
     tally.require("plain reading of stacks", &[(0..=0, 1000), (12..=12, 50), (20..=21, 100)]);
     of_sheets.require("their sheets", &[(0..=0, 1000), (13..=14, 500)]);
+}
+
+/// So do writing and reading by columns, and turning either way: good and damaged plans, sheets of every kind, buffers
+/// of right and wrong lengths.
+#[test]
+fn yardstick_of_columns_agrees() {
+    let mut rng = Rng::new(25);
+    let [mut writes, mut reads, mut turns] = [(); 3].map(|()| Tally::default());
+    for (b1, b2) in burst_sizes() {
+        for _ in 0..20 {
+            let plan = accepted(&mut rng, b1, b2, 20);
+            for _ in 0..20 {
+                let bytes = if rng.one_in(6) { damaged(&plan, &mut rng) } else { plan.encode() };
+                let [mut rows, mut columns] =
+                    Layout::BOTH.map(|layout| sheet_in(layout, &plan, rng.pick(&KINDS), &mut rng));
+                let mut data = random_data(&plan, &mut rng);
+                if rng.one_in(8) {
+                    set_unused_of_data(&plan, &mut data, &mut rng);
+                }
+                for buffer in [&mut rows, &mut columns, &mut data] {
+                    if rng.one_in(10) {
+                        alter_length(buffer, &mut rng);
+                    }
+                }
+                for (from, source, target) in
+                    [(Layout::Rows, &rows, &columns), (Layout::Columns, &columns, &rows)]
+                {
+                    let (mut into, mut expected) = (target.clone(), target.clone());
+                    let answer = model::turn(from, &bytes, source, &mut expected).pack();
+                    let plain = yardstick::plain_turn(from, &bytes, source, &mut into);
+                    assert_eq!((plain, into), (answer, expected));
+                    turns.count(answer);
+                }
+                let (mut sheet, mut expected) = (columns.clone(), columns.clone());
+                let answer = model::write_by_column(&bytes, &data, &mut expected).pack();
+                let plain = yardstick::plain_write_by_column(&bytes, &data, &mut sheet);
+                assert_eq!((plain, sheet), (answer, expected));
+                writes.count(answer);
+                let (mut sheet, mut expected) = (columns.clone(), columns);
+                let (mut text, mut expected_text) = (data.clone(), data);
+                let answer = model::read_by_column(&bytes, &mut expected, &mut expected_text);
+                let plain = yardstick::plain_read_by_column(&bytes, &mut sheet, &mut text);
+                assert_eq!((plain, sheet, text), (answer.pack(), expected, expected_text));
+                reads.count(plain);
+            }
+        }
+    }
+    writes.require("plain writing by columns", &[(0..=0, 1000), (11..=13, 100)]);
+    reads.require("plain reading by columns", &[(0..=0, 1000), (11..=14, 100)]);
+    turns.require("plain turning", &[(0..=0, 1000), (11..=11, 100), (13..=13, 100)]);
 }

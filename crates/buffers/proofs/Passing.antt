@@ -12,6 +12,7 @@
 --   MayWrite, MayRead        what holds where the checks before writing, and before reading, pass
 --   write-zero, writes-pass  the checks before writing pass exactly there
 --   read-zero, reads-pass    so do those before reading
+--   MayTranspose, transpose-zero, transposes-pass   and those before turning a sheet into the other layout
 --   InForm, form-zero, forms-pass   the plan is accepted and the sheet of the right form: checks 1 to 11 and 13 pass exactly there
 --   MaySum, sum-zero, sums-pass     the same for the checks before the sums of a run
 --   ScansFit, scans-fit             what holds where checks 1 to 11 of two scans pass
@@ -30,11 +31,11 @@ use lib.Dec.{eqb, ltb}
 use lib.ListN.{length}
 use Rattle.finite.proofs.Search.{least-le}
 use Rattle.layout.specs.Cells.{rowBytes, sheetBytes, firstUnused, RightForm}
-use Rattle.layout.specs.Stored.{sizeIn, FormIn, firstUnusedIn}
+use Rattle.layout.specs.Stored.{otherThan, sizeIn, FormIn, firstUnusedIn}
 use Rattle.layout.specs.declared.stored.Layout.{Layout}
 use Rattle.layout.specs.declared.stored.Layout.the-variants.{ByRow, ByColumn}
 use Rattle.layout.proofs.Form.{row-sheet}
-use Rattle.layout.proofs.Layouts.{in-unused, unused-in}
+use Rattle.layout.proofs.Layouts.{in-size, in-unused, unused-in}
 use Rattle.boxcode.specs.Code.{Formed}
 use Rattle.boxcode.specs.Check.{dataSize}
 use Rattle.boxcode.proofs.Check.{sheet-cells}
@@ -46,6 +47,7 @@ use Rattle.accept.specs.Verdict.{planVerdict, Accepted}
 use Rattle.accept.specs.Checked.{Checked}
 use Rattle.accept.proofs.Acceptance.{accepted-plan, plan-accepted}
 use Rattle.buffers.specs.Buffers.{lengthVerdict, unusedVerdict, sheetChecks, lengthChecks, writeChecks, readChecks, formChecks, sumsChecks}
+use Rattle.buffers.specs.Buffers.{transposeChecks}
 use Rattle.buffers.specs.Buffers.{scanLengths, scansUnused, scansChecks, readTwoChecks}
 
 pub stops : (u v : Verdict) {x : Verdict} → x ≡ u → (x .number ≡ 0 → ⊥) → x ≡ u orElse v
@@ -180,6 +182,35 @@ unfolding readChecks
 reads-pass lay plan sheet bits r =
     else-second (lengthChecks lay plan sheet bits) _ (number-of (lengths-pass lay plan sheet bits (r .lengths)))
     ∙ right-unused lay (codeOf plan .n1) (codeOf plan .n2) sheet (r .form)
+
+pub record MayTranspose (lay : Layout) (plan source target : List ℕ) : Type 0 where
+  pub accepted : Accepted plan
+  pub form : FormIn lay (codeOf plan .n1) (codeOf plan .n2) source
+  pub target-size : length target ≡ sizeIn (otherThan lay) (codeOf plan .n1) (codeOf plan .n2)
+
+pub transpose-zero : (lay : Layout) (plan source target : List ℕ) → transposeChecks lay plan source target .number ≡ 0 → MayTranspose lay plan source target
+unfolding transposeChecks
+transpose-zero lay plan source target e =
+    let n1 = codeOf plan .n1 in
+    let n2 = codeOf plan .n2 in
+    let p = else-zero (sheetChecks lay plan source) _ e in
+    let q = else-zero (lengthVerdict 11 target (sizeIn (otherThan lay) n1 n2)) _ (p .1) in
+    let F = sheet-zero lay plan source (p .0) in
+    record {
+      accepted = F .accepted;
+      form = unused-right lay n1 n2 source (F .sheet-size) (q .1);
+      target-size = length-right 10 target _ (q .0);
+    }
+
+pub transposes-pass : (lay : Layout) (plan source target : List ℕ) → MayTranspose lay plan source target → transposeChecks lay plan source target ≡ accepted
+unfolding transposeChecks
+transposes-pass lay plan source target m =
+    let n1 = codeOf plan .n1 in
+    let n2 = codeOf plan .n2 in
+    let S : SheetFits lay plan source = record { accepted = m .accepted; sheet-size = in-size lay n1 n2 source (m .form) } in
+    else-second (sheetChecks lay plan source) _ (number-of (sheets-pass lay plan source S))
+    ∙ else-second (lengthVerdict 11 target (sizeIn (otherThan lay) n1 n2)) _ (number-of (right-length 11 target _ (m .target-size)))
+    ∙ right-unused lay n1 n2 source (m .form)
 
 pub record InForm (plan sheet : List ℕ) : Type 0 where
   pub accepted : Accepted plan

@@ -20,6 +20,7 @@
 --   scansUnused      check 13, of the first scan and then of the second
 --   scansChecks      checks 1 to 11 and 13 of two scans: the plan is accepted, and both are of the right form
 --   readTwoChecks    the checks before reading two scans: 1 to 11 of both, 12, and 13 of both
+--   transposeChecks  the checks before turning a sheet into the other layout: 1 to 11 of the source, 11 of the target, 13 of the source
 --
 -- A string of k bits of data is stored as one row of k cells.
 use Prim.Native.Nat.{ℕ, _*_}
@@ -28,7 +29,7 @@ use mathlib.Core.List.{List}
 use lib.Dec.{eqb}
 use lib.ListN.{length}
 use Rattle.layout.specs.Cells.{rowBytes}
-use Rattle.layout.specs.Stored.{sizeIn, firstUnusedIn}
+use Rattle.layout.specs.Stored.{otherThan, sizeIn, firstUnusedIn}
 use Rattle.layout.specs.declared.stored.Layout.{Layout}
 use Rattle.layout.specs.declared.stored.Layout.the-variants.{ByRow}
 use Rattle.boxcode.specs.Code.{Code}
@@ -83,7 +84,11 @@ writeChecks lay plan bits sheet = lengthChecks lay plan sheet bits orElse dataUn
 unfoldable pub readChecks : Layout → (plan sheet bits : List ℕ) → Verdict
 readChecks lay plan sheet bits = lengthChecks lay plan sheet bits orElse sheetUnused lay (codeOf plan) sheet
 
--- all that follow are of sheets by row
+unfoldable pub transposeChecks : Layout → (plan source target : List ℕ) → Verdict
+transposeChecks lay plan source target =
+    sheetChecks lay plan source orElse sheetLength (otherThan lay) (codeOf plan) target orElse sheetUnused lay (codeOf plan) source
+
+-- the lists that follow are of sheets by row
 
 unfoldable pub formChecks : List ℕ → List ℕ → Verdict
 formChecks plan sheet = sheetChecks ByRow plan sheet orElse sheetUnused ByRow (codeOf plan) sheet

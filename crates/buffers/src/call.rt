@@ -7,7 +7,7 @@ ghost use Rattle.plan.specs.Verdict.{_orElse_};
 ghost use Rattle.layout.specs.Cells.{sheetBytes};
 ghost use Rattle.layout.specs.declared.stored.Layout.the-variants.{ByRow};
 ghost use Rattle.buffers.specs.Buffers.{unusedVerdict, sheetChecks, lengthChecks, writeChecks, formChecks, sumsChecks};
-ghost use Rattle.buffers.specs.Buffers.{scanLengths, scansChecks, readTwoChecks};
+ghost use Rattle.buffers.specs.Buffers.{transposeChecks, scanLengths, scansChecks, readTwoChecks};
 use crate::lent::data_length;
 use crate::lent::data_unused;
 use crate::lent::sheet_length;
@@ -15,6 +15,7 @@ use crate::lent::sheet_unused;
 use crate::lent::sums_length;
 use accept::test::test;
 use layout::stored::Layout;
+use layout::stored::other;
 use plan::entry::header_of;
 use plan::header::Header;
 use plan::verdict::Verdict;
@@ -66,6 +67,28 @@ pub fn write_checks(
         return lengths;
     }
     data_unused(header_of(plan), bits)
+}
+
+// The checks before turning a sheet into the other layout.
+pub fn transpose_checks(
+    lay: Layout,
+    plan: &[u8],
+    source: &[u8],
+    target: &[u8],
+    words: &mut [u64],
+) -> Verdict
+    requires { ⌜ length (now words) ≡ 2792 ⌝ }
+    ensures { λ r. ⌜ Checked (now (plan .entry)) (transposeChecks lay (now (plan .entry)) (now (source .entry)) (now (target .entry)))
+        r (now (words .exit)) ⌝ }
+{
+    let checked = sheet_checks(lay, plan, source, words);
+    if checked.number != 0 {
+        return checked;
+    }
+    let h = header_of(plan);
+    let room = sheet_length(other(lay), h, target);
+    let unused = sheet_unused(lay, h, source);
+    or_else(room, unused)
 }
 
 // The plan, and that the sheet is of the right form.

@@ -3,6 +3,7 @@
 --   byte-inside, byte-row, byte-place, byte-digit   the byte of a cell: below the size, its row, its place there, the cell's digit
 --   row-some                                        where a byte is in the sheet, a row has bytes
 --   cell-row, cell-column, cell-byte                the cell of a byte's digit
+--   length-tabulate, getD-tabulate                  a list by its elements: its length and each of them
 --   same-bytes                 two lists of the right form with equal cells are equal
 --   bytes-form, bytes-cell     the bytes of cells p are of the right form and have the cells p
 --   bytes-equal, bytes-back    equal cells have equal bytes; bytes of the right form are the bytes of their cells
@@ -93,12 +94,12 @@ same-bytes n1 n2 s t fs ft h =
 
 -- ---- the bytes of cells
 
-length-tabulate : (n : ℕ) (f : ℕ → ℕ) → length (tabulate n f) ≡ n
+pub length-tabulate : (n : ℕ) (f : ℕ → ℕ) → length (tabulate n f) ≡ n
 unfolding tabulate
 length-tabulate zero f = refl
 length-tabulate (suc n) f = let e : length (tabulate n f) ≡ n = length-tabulate n f in simp length-append (omega arith)
 
-getD-tabulate : (n : ℕ) (f : ℕ → ℕ) (k : ℕ) → k < n → getD (tabulate n f) k 0 ≡ f k
+pub getD-tabulate : (n : ℕ) (f : ℕ → ℕ) (k : ℕ) → k < n → getD (tabulate n f) k 0 ≡ f k
 unfolding tabulate
 getD-tabulate zero f k l = absurd (omega arith)
 getD-tabulate (suc n) f k l = go (ℕ-discrete k n) (getD-tabulate n f k)

@@ -11,6 +11,7 @@
 --   in-zeros                   bytes that are all 0
 --   size-most                  a sheet has at most 45,056 bytes
 --   in-turned-form, in-turned-cell, in-turned-length, in-turned-bytes   one cell turned over, if that is asked for
+--   transposed-form, transposed-cell, transposed-back   the other layout has the same cells, and turning back is nothing
 --
 -- Assumes nothing.
 use mathlib.Core.Path.{_≡_, refl, sym, ap, _∙_}
@@ -23,7 +24,7 @@ use lib.Dec.{eqb}
 use lib.ListN.{length, replicate}
 use Rattle.finite.proofs.Truth.{and-comm}
 use Rattle.layout.specs.Cells.{rowBytes, sheetBytes, RightForm}
-use Rattle.layout.specs.Stored.{Sizes, sizeIn, cellIn, FormIn, bytesIn, firstUnusedIn, turnedIn}
+use Rattle.layout.specs.Stored.{Sizes, otherThan, sizeIn, cellIn, FormIn, bytesIn, firstUnusedIn, turnedIn, transposed}
 use Rattle.layout.specs.declared.stored.Layout.{Layout}
 use Rattle.layout.specs.declared.stored.Layout.the-variants.{ByRow, ByColumn}
 use Rattle.layout.proofs.Form.{same-bytes, bytes-form, bytes-cell, bytes-equal, unused-form, form-unused, zeros-bytes}
@@ -122,3 +123,24 @@ in-turned-bytes lay n1 n2 t p q i j li lj h =
     ∙ ap (λ (x : Bool). xor x (t && (eqb i a && eqb j b))) (L .cell p a b la lb)
     ∙ h a b la lb
     ∙ sym (L .cell q a b la lb))
+
+-- ---- the other layout
+
+module _ (lay : Layout) (n1 n2 : ℕ) (s : List ℕ) where
+  pub transposed-form : FormIn (otherThan lay) n1 n2 (transposed lay n1 n2 s)
+  unfolding transposed
+  transposed-form = laws (otherThan lay) n1 n2 .form (cellIn lay n1 n2 s)
+
+  pub transposed-cell : (i j : ℕ) → i < n1 → j < n2 → cellIn (otherThan lay) n1 n2 (transposed lay n1 n2 s) i j ≡ cellIn lay n1 n2 s i j
+  unfolding transposed
+  transposed-cell = laws (otherThan lay) n1 n2 .cell (cellIn lay n1 n2 s)
+
+  pub transposed-back : FormIn lay n1 n2 s → transposed (otherThan lay) n1 n2 (transposed lay n1 n2 s) ≡ s
+  unfolding transposed
+  transposed-back f = go lay f transposed-cell
+    where
+      go : (lay : Layout) → FormIn lay n1 n2 s
+          → ((i j : ℕ) → i < n1 → j < n2 → cellIn (otherThan lay) n1 n2 (transposed lay n1 n2 s) i j ≡ cellIn lay n1 n2 s i j)
+          → transposed (otherThan lay) n1 n2 (transposed lay n1 n2 s) ≡ s
+      go ByRow f h = in-equal ByRow n1 n2 _ _ h ∙ in-back ByRow n1 n2 s f
+      go ByColumn f h = in-equal ByColumn n1 n2 _ _ h ∙ in-back ByColumn n1 n2 s f

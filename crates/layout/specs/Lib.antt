@@ -3,4 +3,5 @@ pub mod Number
 pub mod Joined
 pub mod Cells
 pub mod Stored
+pub mod Transpose
 pub mod Differ

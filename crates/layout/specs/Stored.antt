@@ -3,12 +3,14 @@
 -- lowest, unused bits 0. What Cells says of rows is said here of either layout.
 --
 --   Sizes n1 n2             a sheet is at most this large
+--   otherThan lay           the layout that it is not
 --   sizeIn lay n1 n2        the bytes of a sheet
 --   cellIn lay n1 n2 s      the cells of the bytes s
 --   FormIn lay n1 n2 s      the bytes s are of the right form
 --   bytesIn lay n1 n2 p     the bytes of the right form with the cells p
 --   firstUnusedIn lay n1 n2 s   the first byte with an unused bit that is 1, or the number of bytes
 --   turnedIn b lay n1 n2 s i j  the bytes s with cell (i, j) turned over if b holds
+--   transposed lay n1 n2 s  the bytes s of this layout, in the other one
 use Prim.Native.Nat.{ℕ, _≤_}
 use mathlib.Core.Bool.{Bool}
 use mathlib.Core.List.{List}
@@ -19,6 +21,10 @@ use Rattle.layout.specs.declared.stored.Layout.the-variants.{ByRow, ByCo
 pub record Sizes (n1 n2 : ℕ) : Type 0 where
   pub n1-most : n1 ≤ 512
   pub n2-most : n2 ≤ 698
+
+abbrev pub otherThan : Layout → Layout
+otherThan ByRow = ByColumn
+otherThan ByColumn = ByRow
 
 abbrev pub sizeIn : Layout → ℕ → ℕ → ℕ
 sizeIn ByRow n1 n2 = sheetBytes n1 n2
@@ -43,3 +49,6 @@ firstUnusedIn ByColumn n1 n2 s = firstUnused n2 n1 s
 abbrev pub turnedIn : Bool → Layout → ℕ → ℕ → List ℕ → ℕ → ℕ → List ℕ
 turnedIn b ByRow n1 n2 s i j = turnedIf b n2 s i j
 turnedIn b ByColumn n1 n2 s i j = turnedIf b n1 s j i
+
+unfoldable pub transposed : Layout → ℕ → ℕ → List ℕ → List ℕ
+transposed lay n1 n2 s = bytesIn (otherThan lay) n1 n2 (cellIn lay n1 n2 s)

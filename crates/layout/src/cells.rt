@@ -13,7 +13,7 @@ pub fn row_bytes(n2: usize) -> usize
 }
 
 // The byte that holds a cell.
-fn byte_of(n2: usize, i: usize, j: usize) -> usize
+pub fn byte_of(n2: usize, i: usize, j: usize) -> usize
     requires { ⌜ (n2 ≤ 1000000) × (byteOf n2 i j < 2 ^ 64) ⌝ }
     ensures { λ r. ⌜ r ≡ byteOf n2 i j ⌝ }
 {

@@ -6,3 +6,4 @@ pub mod cycle;
 pub mod differ;
 pub mod number;
 pub mod stored;
+pub mod transpose;

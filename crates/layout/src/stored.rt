@@ -2,7 +2,7 @@
 ghost use mathlib.Core.Path.{_≡_};
 ghost use Prim.Native.Nat.{_≤_, _<_};
 ghost use lib.ListN.{length};
-ghost use Rattle.layout.specs.Stored.{Sizes, sizeIn, cellIn, turnedIn, firstUnusedIn};
+ghost use Rattle.layout.specs.Stored.{Sizes, otherThan, sizeIn, cellIn, turnedIn, firstUnusedIn};
 use crate::cells::cell;
 use crate::cells::first_unused;
 use crate::cells::row_bytes;
@@ -12,6 +12,16 @@ use crate::cells::turn_if;
 pub enum Layout {
     ByRow,
     ByColumn,
+}
+
+// The layout that it is not.
+pub fn other(lay: Layout) -> Layout
+    ensures { λ r. ⌜ r ≡ otherThan lay ⌝ }
+{
+    match lay {
+        Layout::ByRow => Layout::ByColumn,
+        Layout::ByColumn => Layout::ByRow,
+    }
 }
 
 // The bytes of a sheet.

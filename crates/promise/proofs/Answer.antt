@@ -1,6 +1,6 @@
 -- The answers of the calls, taken apart: one declaration for each theorem of specs/Answer.antt, of that type.
 --
---   plan-carries, make-carries, write-carries, read-carries, sums-carries, alter-carries, two-carries, stack-carries,
+--   plan-carries, make-carries, write-carries, read-carries, turn-carries, sums-carries, alter-carries, two-carries, stack-carries,
 --   difference-carries
 --
 -- Assumes nothing.
@@ -11,14 +11,15 @@ use Rattle.accept.specs.Verdict.{planVerdict}
 use Rattle.maker.specs.Make.{make}
 use Rattle.writer.specs.Write.{writeIn}
 use Rattle.reader.specs.Read.{readIn}
+use Rattle.transpose.specs.Transpose.{turnOver}
 use Rattle.runsums.specs.RunSums.{sumRun}
 use Rattle.alter.specs.Alter.{alter}
 use Rattle.scans.specs.ReadTwo.{readTwo}
 use Rattle.stack.specs.ReadStack.{readStack}
 use Rattle.difference.specs.Difference.{difference}
 use Rattle.sheet.specs.Calls.{verdictFields, reportFields, planAnswer, makeCall, writeCall, readCall, sumsCall, alterCall}
-use Rattle.sheet.specs.Calls.{readTwoCall, readStackCall, differenceAnswer}
-use Rattle.sheet.proofs.Ranges.{plan-range, make-range, write-range, read-range, sums-range, alter-range, two-range, stack-range, part-range}
+use Rattle.sheet.specs.Calls.{readTwoCall, readStackCall, differenceAnswer, turnCall}
+use Rattle.sheet.proofs.Ranges.{plan-range, make-range, write-range, read-range, turn-range, sums-range, alter-range, two-range, stack-range, part-range}
 use Rattle.promise.specs.Answer as promise
 
 pub plan-carries : promise.PlanCarries
@@ -38,6 +39,11 @@ unfolding readCall
 read-carries lay plan sheet bits =
     let o = readIn lay plan sheet bits in
     packed-carries (reportFields (o .verdict) (o .report)) (read-range lay plan sheet bits)
+
+pub turn-carries : promise.TurnCarries
+unfolding turnCall
+turn-carries lay plan source target =
+    packed-carries (verdictFields (turnOver lay plan source target .verdict)) (turn-range lay plan source target)
 
 pub sums-carries : promise.SumsCarries
 unfolding sumsCall

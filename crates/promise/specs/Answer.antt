@@ -5,6 +5,7 @@
 --   MakeCarries    making a plan: likewise
 --   WriteCarries   writing, in either layout: likewise
 --   ReadCarries    reading, in either layout: the number, the places and the reader's five numbers
+--   TurnCarries    turning a sheet into the other layout: the number and the places of its verdict, and five zeros
 --   SumsCarries    asking for the sums of a run: the number and the places of its verdict, and five zeros
 --   AlterCarries   altering: likewise
 --   TwoCarries     reading two scans: likewise
@@ -19,13 +20,14 @@ use Rattle.maker.specs.declared.parameters.Parameters.{Parameters}
 use Rattle.maker.specs.Make.{make}
 use Rattle.writer.specs.Write.{writeIn}
 use Rattle.reader.specs.Read.{readIn}
+use Rattle.transpose.specs.Transpose.{turnOver}
 use Rattle.runsums.specs.RunSums.{sumRun}
 use Rattle.alter.specs.Alter.{alter}
 use Rattle.scans.specs.ReadTwo.{readTwo}
 use Rattle.stack.specs.ReadStack.{readStack}
 use Rattle.difference.specs.Difference.{difference}
 use Rattle.sheet.specs.Calls.{verdictFields, reportFields, planAnswer, makeCall, writeCall, readCall, sumsCall, alterCall}
-use Rattle.sheet.specs.Calls.{readTwoCall, readStackCall, differenceAnswer}
+use Rattle.sheet.specs.Calls.{readTwoCall, readStackCall, differenceAnswer, turnCall}
 
 abbrev pub PlanCarries : Type 0
 PlanCarries = (plan : List ℕ) → Carries (planAnswer plan) (verdictFields (planVerdict plan))
@@ -40,6 +42,10 @@ WriteCarries = (lay : Layout) (plan bits sheet : List ℕ)
 abbrev pub ReadCarries : Type 0
 ReadCarries = (lay : Layout) (plan sheet bits : List ℕ)
     → let o = readIn lay plan sheet bits in Carries (readCall lay plan sheet bits .answer) (reportFields (o .verdict) (o .report))
+
+abbrev pub TurnCarries : Type 0
+TurnCarries = (lay : Layout) (plan source target : List ℕ)
+    → Carries (turnCall lay plan source target .answer) (verdictFields (turnOver lay plan source target .verdict))
 
 abbrev pub SumsCarries : Type 0
 SumsCarries = (plan sheet : List ℕ) (first past : ℕ) (sums : List ℕ)

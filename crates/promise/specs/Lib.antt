@@ -1,5 +1,6 @@
 -- What the calls promise together.
 pub mod Promise
+pub mod Layouts
 pub mod Answer
 pub mod House
 pub mod Sums

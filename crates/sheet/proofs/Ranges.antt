@@ -2,12 +2,13 @@
 --
 --   write-fits    number and places of writing
 --   read-fits     number and places of reading
+--   turns-fit     number and places of turning a sheet into the other layout
 --   sums-fit      number and places of asking for the sums of a run; forms-fit, those of the checks that a sheet is of the right form
 --   alters-fit    number and places of altering
 --   two-fits      number and places of reading two scans
 --   stack-fits    number and places of reading a stack
 --   report-fits   the reader's five numbers
---   plan-range, make-range, write-range, read-range, sums-range, alter-range, two-range, stack-range
+--   plan-range, make-range, write-range, read-range, turn-range, sums-range, alter-range, two-range, stack-range
 --                 the fields of the answer of each call
 --   part-range    start and length of the part in which two scans first differ
 --   made-range, made-packed   the answer of either call that makes a plan
@@ -22,7 +23,7 @@ use borrow.Author.Tests.{eqb-true}
 use lib.Dec.{eqb, leb}
 use lib.ListN.{length}
 use Rattle.layout.specs.Cells.{rowBytes, sheetBytes, cellOf}
-use Rattle.layout.specs.Stored.{sizeIn, cellIn, firstUnusedIn}
+use Rattle.layout.specs.Stored.{otherThan, sizeIn, cellIn, firstUnusedIn}
 use Rattle.layout.specs.declared.stored.Layout.{Layout}
 use Rattle.layout.specs.declared.stored.Layout.the-variants.{ByRow}
 use Rattle.layout.proofs.Layouts as layouts
@@ -40,6 +41,7 @@ use Rattle.accept.proofs.Range.{SmallVerdict, accepted-fits, else-fits, if-fits
 use Rattle.buffers.specs.Buffers.{numbersSize, numbersLength}
 use Rattle.buffers.specs.Buffers.{lengthVerdict, unusedVerdict, sheetLength, dataLength, sumsLength}
 use Rattle.buffers.specs.Buffers.{sheetChecks, lengthChecks, writeChecks, readChecks, formChecks, sumsChecks, scanLengths, readTwoChecks}
+use Rattle.buffers.specs.Buffers.{transposeChecks}
 use Rattle.buffers.proofs.Passing.{size-most, sheet-zero, length-zero, scans-fit}
 use Rattle.mend.specs.declared.report.Report.{Report}
 use Rattle.mend.specs.Report.{reportAs}
@@ -53,6 +55,7 @@ use Rattle.maker.specs.declared.parameters.Parameters.{Parameters}
 use Rattle.maker.specs.Make.{Made, made, make}
 use Rattle.maker.proofs.Range.{make-fits}
 use Rattle.writer.specs.Write.{writeIn}
+use Rattle.transpose.specs.Transpose.{turnOver}
 use Rattle.runsums.specs.RunSums.{sumRun}
 use Rattle.difference.specs.declared.Part.{Part}
 use Rattle.difference.specs.Difference.{difference}
@@ -114,6 +117,14 @@ unfolding readChecks
 reads-fit lay plan sheet bits =
     after-lengths lay plan sheet bits (unusedVerdict lay (codeOf plan .n1) (codeOf plan .n2) sheet)
     (λ F. unused-fits lay (codeOf plan .n1) (codeOf plan .n2) sheet (sheet-bytes lay plan F))
+
+pub turns-fit : (lay : Layout) (plan source target : List ℕ) → SmallVerdict (transposeChecks lay plan source target)
+unfolding transposeChecks
+turns-fit lay plan source target =
+    let c = codeOf plan in
+    else-fits (sheetChecks lay plan source) _ (sheets-fit lay plan source)
+    (λ e. else-fits (sheetLength (otherThan lay) c target) _ (length-fits 11 target (sizeIn (otherThan lay) (c .n1) (c .n2)) (omega arith))
+    (λ _. unused-fits lay (c .n1) (c .n2) source (sheet-bytes lay plan (sheet-zero lay plan source e .accepted .formed))))
 
 pub forms-fit : (plan sheet : List ℕ) → SmallVerdict (formChecks plan sheet)
 unfolding formChecks
@@ -266,6 +277,11 @@ module _ (g : Parameters) (plan : List ℕ) {v : Verdict} {s : List ℕ} (e : ma
 pub write-range : (lay : Layout) (plan bits sheet : List ℕ) → InRange (verdictFields (writeIn lay plan bits sheet .verdict))
 unfolding writeIn
 write-range lay plan bits sheet = fields-range (writeChecks lay plan bits sheet) (reportAs noReport) (write-fits lay plan bits sheet) none-fits
+
+pub turn-range : (lay : Layout) (plan source target : List ℕ) → InRange (verdictFields (turnOver lay plan source target .verdict))
+unfolding turnOver
+turn-range lay plan source target =
+    fields-range (transposeChecks lay plan source target) (reportAs noReport) (turns-fit lay plan source target) none-fits
 
 pub sums-range : (plan sheet : List ℕ) (first past : ℕ) (sums : List ℕ) → InRange (verdictFields (sumRun plan sheet first past sums .verdict))
 unfolding sumRun

@@ -7,6 +7,7 @@
 --   MakeReply, makeCall     the answer of making a plan, packed, and every byte of the plan after it
 --   WriteReply, writeCall   the answer of writing in a layout, packed, and every byte of the sheet after it
 --   ReadReply, readCall     the answer of reading in a layout, packed, and every byte of the sheet and of the data buffer after it
+--   TurnReply, turnCall     the answer of turning a sheet of a layout into the other, packed, and every byte of the target after it
 --   SumsReply, sumsCall     the answer of asking for the sums of a run of rows, packed, and every byte of their buffer after it
 --   AlterReply, alterCall   the answer of altering one data bit, packed, and every byte of the sheet after it
 --   ReadTwoReply, readTwoCall   the answer of reading two scans, packed, and every byte of the data buffer after it
@@ -23,6 +24,7 @@ use Rattle.maker.specs.declared.parameters.Parameters.{Parameters}
 use Rattle.maker.specs.Make.{make}
 use Rattle.writer.specs.Write.{writeIn}
 use Rattle.reader.specs.Read.{readIn}
+use Rattle.transpose.specs.Transpose.{turnOver}
 use Rattle.runsums.specs.RunSums.{sumRun}
 use Rattle.alter.specs.Alter.{alter}
 use Rattle.scans.specs.ReadTwo.{readTwo}
@@ -78,6 +80,16 @@ readCall lay plan sheet bits =
     let o = readIn lay plan sheet bits in
     record { answer = packed (reportFields (o .verdict) (o .report)); sheet = o .sheet; bits = o .bits }
 
+pub record TurnReply : Type 0 where
+  pub answer : ℕ
+  pub target : List ℕ
+
+-- lay is the layout of the source
+unfoldable pub turnCall : Layout → (plan source target : List ℕ) → TurnReply
+turnCall lay plan source target =
+    let o = turnOver lay plan source target in
+    record { answer = packed (verdictFields (o .verdict)); target = o .target }
+
 pub record SumsReply : Type 0 where
   pub answer : ℕ
   pub sums : List ℕ
@@ -105,6 +117,9 @@ writeReply a s = record { answer = a; sheet = s }
 
 abbrev pub readReply : ℕ → List ℕ → List ℕ → ReadReply
 readReply a s b = record { answer = a; sheet = s; bits = b }
+
+abbrev pub turnReply : ℕ → List ℕ → TurnReply
+turnReply a s = record { answer = a; target = s }
 
 abbrev pub sumsReply : ℕ → List ℕ → SumsReply
 sumsReply a s = record { answer = a; sums = s }

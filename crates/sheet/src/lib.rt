@@ -1,11 +1,11 @@
 // The calls for C (include/sheet.h). Each takes whatever it is handed, and answers one 64-bit number (docs/ANSWER.md).
 // A call that turns something back changes no byte of any buffer. The data buffer is called bits here.
 ghost use mathlib.Core.Path.{_≡_};
-ghost use Rattle.layout.specs.declared.stored.Layout.the-variants.{ByRow};
 ghost use Rattle.houseplan.specs.HousePlan.{houseParameters};
 ghost use Rattle.sheet.specs.Calls.{planAnswer, parameters, makeReply, makeCall, writeReply, writeCall, readReply, readCall};
 ghost use Rattle.sheet.specs.Calls.{sumsReply, sumsCall, alterReply, alterCall, readTwoReply, readTwoCall, differenceAnswer};
-ghost use Rattle.sheet.specs.Calls.{readStackReply, readStackCall};
+ghost use Rattle.sheet.specs.Calls.{readStackReply, readStackCall, turnReply, turnCall};
+ghost use Rattle.layout.specs.declared.stored.Layout.the-variants.{ByRow, ByColumn};
 ghost use Rattle.stack.specs.ReadStack.{lent};
 use accept::test::test;
 use alter::altering::alter;
@@ -22,6 +22,7 @@ use reader::read::read;
 use runsums::sum_run;
 use scans::reading::read_two;
 use stack::reading::read_stack;
+use transpose::turn_over;
 use writer::writing::write;
 
 // Tests a plan: the number and places of the first check of document 01 that fails, or 0.
@@ -72,21 +73,35 @@ pub extern "C" fn sheet_house_plan(plan: &mut [u8]) -> u64
     pack_places(house.number, house.p, house.q)
 }
 
+// Writing in a layout, its answer packed.
+fn write_packed(lay: Layout, plan: &[u8], bits: &[u8], sheet: &mut [u8]) -> u64
+    ensures { λ r. ⌜ writeReply r (now (sheet .exit)) ≡ writeCall lay (now (plan .entry)) (now (bits .entry)) (now (sheet .entry)) ⌝ }
+{
+    let wrote = write(lay, plan, bits, sheet);
+    pack_places(wrote.number, wrote.p, wrote.q)
+}
+
 // Writes the sheet that carries the data: every byte of it, whatever it held.
 #[no_mangle]
 pub extern "C" fn sheet_write(plan: &[u8], bits: &[u8], sheet: &mut [u8]) -> u64
     ensures { λ r. ⌜ writeReply r (now (sheet .exit)) ≡ writeCall ByRow (now (plan .entry)) (now (bits .entry)) (now (sheet .entry)) ⌝ }
 {
-    let wrote = write(Layout::ByRow, plan, bits, sheet);
-    pack_places(wrote.number, wrote.p, wrote.q)
+    write_packed(Layout::ByRow, plan, bits, sheet)
 }
 
-// Reads a sheet: mends it in place, writes its data, and tells which cells were turned over.
+// The same, with the sheet stored by columns.
 #[no_mangle]
-pub extern "C" fn sheet_read(plan: &[u8], sheet: &mut [u8], bits: &mut [u8]) -> u64
-    ensures { λ r. ⌜ readReply r (now (sheet .exit)) (now (bits .exit)) ≡ readCall ByRow (now (plan .entry)) (now (sheet .entry)) (now (bits .entry)) ⌝ }
+pub extern "C" fn sheet_write_by_column(plan: &[u8], bits: &[u8], sheet: &mut [u8]) -> u64
+    ensures { λ r. ⌜ writeReply r (now (sheet .exit)) ≡ writeCall ByColumn (now (plan .entry)) (now (bits .entry)) (now (sheet .entry)) ⌝ }
 {
-    let a = read(Layout::ByRow, plan, sheet, bits);
+    write_packed(Layout::ByColumn, plan, bits, sheet)
+}
+
+// Reading in a layout, its answer packed.
+fn read_packed(lay: Layout, plan: &[u8], sheet: &mut [u8], bits: &mut [u8]) -> u64
+    ensures { λ r. ⌜ readReply r (now (sheet .exit)) (now (bits .exit)) ≡ readCall lay (now (plan .entry)) (now (sheet .entry)) (now (bits .entry)) ⌝ }
+{
+    let a = read(lay, plan, sheet, bits);
     let v = a.verdict;
     let r = a.report;
     pack(Answer {
@@ -99,6 +114,47 @@ pub extern "C" fn sheet_read(plan: &[u8], sheet: &mut [u8], bits: &mut [u8]) -> 
         height: r.height,
         width: r.width,
     })
+}
+
+// Reads a sheet: mends it in place, writes its data, and tells which cells were turned over.
+#[no_mangle]
+pub extern "C" fn sheet_read(plan: &[u8], sheet: &mut [u8], bits: &mut [u8]) -> u64
+    ensures { λ r. ⌜ readReply r (now (sheet .exit)) (now (bits .exit)) ≡ readCall ByRow (now (plan .entry)) (now (sheet .entry)) (now (bits .entry)) ⌝ }
+{
+    read_packed(Layout::ByRow, plan, sheet, bits)
+}
+
+// The same, with the sheet stored by columns.
+#[no_mangle]
+pub extern "C" fn sheet_read_by_column(plan: &[u8], sheet: &mut [u8], bits: &mut [u8]) -> u64
+    ensures { λ r. ⌜ readReply r (now (sheet .exit)) (now (bits .exit))
+        ≡ readCall ByColumn (now (plan .entry)) (now (sheet .entry)) (now (bits .entry)) ⌝ }
+{
+    read_packed(Layout::ByColumn, plan, sheet, bits)
+}
+
+// Turning a sheet of a layout into the other, its answer packed.
+fn turn_packed(lay: Layout, plan: &[u8], source: &[u8], target: &mut [u8]) -> u64
+    ensures { λ r. ⌜ turnReply r (now (target .exit)) ≡ turnCall lay (now (plan .entry)) (now (source .entry)) (now (target .entry)) ⌝ }
+{
+    let turned = turn_over(lay, plan, source, target);
+    pack_places(turned.number, turned.p, turned.q)
+}
+
+// A sheet stored by rows into one stored by columns: every byte of the target, whatever it held.
+#[no_mangle]
+pub extern "C" fn sheet_to_columns(plan: &[u8], source: &[u8], target: &mut [u8]) -> u64
+    ensures { λ r. ⌜ turnReply r (now (target .exit)) ≡ turnCall ByRow (now (plan .entry)) (now (source .entry)) (now (target .entry)) ⌝ }
+{
+    turn_packed(Layout::ByRow, plan, source, target)
+}
+
+// A sheet stored by columns into one stored by rows: every byte of the target, whatever it held.
+#[no_mangle]
+pub extern "C" fn sheet_to_rows(plan: &[u8], source: &[u8], target: &mut [u8]) -> u64
+    ensures { λ r. ⌜ turnReply r (now (target .exit)) ≡ turnCall ByColumn (now (plan .entry)) (now (source .entry)) (now (target .entry)) ⌝ }
+{
+    turn_packed(Layout::ByColumn, plan, source, target)
 }
 
 // The two sums of the rows of a sheet from first up to but not including past: V, then H, in 8 bytes.

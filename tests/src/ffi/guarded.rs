@@ -3,10 +3,11 @@
 use std::ops::Range;
 
 use super::{
-    alter, first_difference, house_plan, plan_make, read_stack, read_two, sums, Archive, SHEET,
+    alter, first_difference, house_plan, plan_make, read_stack, read_two, sums, turn, Archive,
 };
 use crate::answer::Answer;
 use crate::given::Given;
+use crate::model::Layout;
 use crate::rng::Rng;
 use crate::stacks::Lent;
 
@@ -23,11 +24,12 @@ impl Library {
         Library { rng: Rng::new(seed) }
     }
 
-    fn archive(&mut self) -> Archive {
+    fn archive(&mut self, layout: Layout) -> Archive {
+        let archive = Archive::of(layout);
         if self.rng.one_in(2) {
-            SHEET.with_null()
+            archive.with_null()
         } else {
-            SHEET
+            archive
         }
     }
 
@@ -50,16 +52,22 @@ impl Library {
 
     pub fn plan_test(&mut self, plan: &[u8]) -> u64 {
         let plan = Guarded::new("plan", plan, &mut self.rng);
-        let answer = self.archive().plan_test(plan.content());
+        let answer = self.archive(Layout::Rows).plan_test(plan.content());
         plan.assert_unchanged();
         answer
     }
 
     pub fn write(&mut self, plan: &[u8], data: &[u8], sheet: &mut [u8]) -> u64 {
+        self.write_in(Layout::Rows, plan, data, sheet)
+    }
+
+    /// Write a sheet in this layout.
+    pub fn write_in(&mut self, layout: Layout, plan: &[u8], data: &[u8], sheet: &mut [u8]) -> u64 {
         let plan = Guarded::new("plan", plan, &mut self.rng);
         let data = Guarded::new("data", data, &mut self.rng);
         let mut target = Guarded::new("sheet", sheet, &mut self.rng);
-        let answer = self.archive().write(plan.content(), data.content(), target.content_mut());
+        let archive = self.archive(layout);
+        let answer = archive.write(plan.content(), data.content(), target.content_mut());
         plan.assert_unchanged();
         data.assert_unchanged();
         target.hand_back(answer, sheet);
@@ -67,10 +75,22 @@ impl Library {
     }
 
     pub fn read(&mut self, plan: &[u8], sheet: &mut [u8], data: &mut [u8]) -> u64 {
+        self.read_in(Layout::Rows, plan, sheet, data)
+    }
+
+    /// Read a sheet in this layout.
+    pub fn read_in(
+        &mut self,
+        layout: Layout,
+        plan: &[u8],
+        sheet: &mut [u8],
+        data: &mut [u8],
+    ) -> u64 {
         let plan = Guarded::new("plan", plan, &mut self.rng);
         let mut scan = Guarded::new("sheet", sheet, &mut self.rng);
         let mut target = Guarded::new("data", data, &mut self.rng);
-        let answer = self.archive().read(plan.content(), scan.content_mut(), target.content_mut());
+        let archive = self.archive(layout);
+        let answer = archive.read(plan.content(), scan.content_mut(), target.content_mut());
         plan.assert_unchanged();
         scan.hand_back(answer, sheet);
         target.hand_back(answer, data);
@@ -142,6 +162,19 @@ impl Library {
         stack.hand_back(answer, &mut lent.stack);
         numbers.hand_back(answer, &mut lent.numbers);
         data.hand_back(answer, &mut lent.data);
+        answer
+    }
+
+    /// Turn a sheet from this layout into the other.
+    pub fn turn(&mut self, from: Layout, plan: &[u8], sheet: &[u8], into: &mut [u8]) -> u64 {
+        let plan = Guarded::new("plan", plan, &mut self.rng);
+        let source = Guarded::new("source", sheet, &mut self.rng);
+        let mut target = Guarded::new("target", into, &mut self.rng);
+        let null = self.rng.one_in(2);
+        let answer = turn(from, plan.content(), source.content(), target.content_mut(), null);
+        plan.assert_unchanged();
+        source.assert_unchanged();
+        target.hand_back(answer, into);
         answer
     }
 }

@@ -1,12 +1,14 @@
 //! The calls of libsheet.a: bare, and on guarded buffers.
 
 mod alter;
+mod columns;
 mod guarded;
 mod stack;
 mod sums;
 mod two;
 
 pub use alter::{alter, alter_by_register};
+pub use columns::turn;
 pub use guarded::Library;
 pub use stack::read_stack;
 pub use sums::{sums, sums_by_registers};
@@ -15,12 +17,13 @@ pub use two::{first_difference, part, read_two};
 use std::ptr;
 
 use crate::given::Given;
+use crate::model::Layout;
 
 type PlanTest = unsafe extern "C" fn(*const u8, usize) -> u64;
 type Write = unsafe extern "C" fn(*const u8, usize, *const u8, usize, *mut u8, usize) -> u64;
 type Read = unsafe extern "C" fn(*const u8, usize, *mut u8, usize, *mut u8, usize) -> u64;
 
-/// The calls of an archive that have been there from the first on, bare.
+/// The plan test of an archive, and the calls that write and read sheets in one layout, bare.
 #[derive(Clone, Copy)]
 pub struct Archive {
     plan_test: PlanTest,
@@ -33,28 +36,34 @@ pub struct Archive {
 /// Names the symbols of an archive.
 macro_rules! archive {
     ($(#[$about:meta])* $name:ident: $plan_test:ident, $write:ident, $read:ident) => {
-        extern "C" {
-            fn $plan_test(plan: *const u8, plan_len: usize) -> u64;
-            fn $write(
-                plan: *const u8, plan_len: usize,
-                data: *const u8, data_len: usize,
-                sheet: *mut u8, sheet_len: usize,
-            ) -> u64;
-            fn $read(
-                plan: *const u8, plan_len: usize,
-                sheet: *mut u8, sheet_len: usize,
-                data: *mut u8, data_len: usize,
-            ) -> u64;
-        }
         $(#[$about])*
-        pub const $name: Archive =
-            Archive { plan_test: $plan_test, write: $write, read: $read, null: false };
+        pub const $name: Archive = {
+            extern "C" {
+                fn $plan_test(plan: *const u8, plan_len: usize) -> u64;
+                fn $write(
+                    plan: *const u8, plan_len: usize,
+                    data: *const u8, data_len: usize,
+                    sheet: *mut u8, sheet_len: usize,
+                ) -> u64;
+                fn $read(
+                    plan: *const u8, plan_len: usize,
+                    sheet: *mut u8, sheet_len: usize,
+                    data: *mut u8, data_len: usize,
+                ) -> u64;
+            }
+            Archive { plan_test: $plan_test, write: $write, read: $read, null: false }
+        };
     };
 }
 
 archive! {
     /// The archive under test.
     SHEET: sheet_plan_test, sheet_write, sheet_read
+}
+
+archive! {
+    /// The archive under test, on sheets by columns. That of an earlier commit may have no such calls.
+    BY_COLUMN: sheet_plan_test, sheet_write_by_column, sheet_read_by_column
 }
 
 #[cfg(feature = "before")]
@@ -65,6 +74,14 @@ archive! {
 
 #[rustfmt::skip]
 impl Archive {
+    /// The archive under test, on sheets in this layout.
+    pub const fn of(layout: Layout) -> Archive {
+        match layout {
+            Layout::Rows => SHEET,
+            Layout::Columns => BY_COLUMN,
+        }
+    }
+
     /// The same calls, with null for a buffer of length 0.
     pub const fn with_null(self) -> Archive {
         Archive { null: true, ..self }

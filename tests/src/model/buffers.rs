@@ -3,23 +3,37 @@
 
 use std::ops::Range;
 
-use super::sheet::{syndrome, unused_bits};
+use super::layout::Layout::{self, Rows};
+use super::sheet::syndrome;
 use super::stack::sheet_places;
 use crate::answer::Answer;
 use crate::plan::Plan;
 
-/// Writing: checks 11 to 13.
-pub fn check_writing(plan: &Plan, data: &[u8], sheet: &[u8]) -> Result<(), Answer> {
-    sheet_length(plan, sheet)?;
+/// Writing a sheet in this layout: checks 11 to 13.
+pub fn check_writing(layout: Layout, plan: &Plan, data: &[u8], sheet: &[u8]) -> Result<(), Answer> {
+    sheet_length(layout, plan, sheet)?;
     data_length(plan, data)?;
     unused_of_data(plan, data)
 }
 
-/// Reading: checks 11 to 13.
-pub fn check_reading(plan: &Plan, sheet: &[u8], data: &[u8]) -> Result<(), Answer> {
-    sheet_length(plan, sheet)?;
+/// Reading a sheet in this layout: checks 11 to 13.
+pub fn check_reading(layout: Layout, plan: &Plan, sheet: &[u8], data: &[u8]) -> Result<(), Answer> {
+    sheet_length(layout, plan, sheet)?;
     data_length(plan, data)?;
-    unused_of_sheet(plan, sheet)
+    unused_of_sheet(layout, plan, sheet)
+}
+
+/// Turning a sheet from this layout into the other: checks 11 for the source, 11 for the target, 13 for the
+/// source.
+pub fn check_turning(
+    from: Layout,
+    plan: &Plan,
+    source: &[u8],
+    target: &[u8],
+) -> Result<(), Answer> {
+    sheet_length(from, plan, source)?;
+    sheet_length(from.other(), plan, target)?;
+    unused_of_sheet(from, plan, source)
 }
 
 /// Reading two scans: checks 11 for each, 12, 13 for each.
@@ -29,19 +43,19 @@ pub fn check_reading_two(
     second: &[u8],
     data: &[u8],
 ) -> Result<(), Answer> {
-    sheet_length(plan, first)?;
-    sheet_length(plan, second)?;
+    sheet_length(Rows, plan, first)?;
+    sheet_length(Rows, plan, second)?;
     data_length(plan, data)?;
-    unused_of_sheet(plan, first)?;
-    unused_of_sheet(plan, second)
+    unused_of_sheet(Rows, plan, first)?;
+    unused_of_sheet(Rows, plan, second)
 }
 
 /// Finding where two scans differ: checks 11 and 13 for each.
 pub fn check_comparing(plan: &Plan, first: &[u8], second: &[u8]) -> Result<(), Answer> {
-    sheet_length(plan, first)?;
-    sheet_length(plan, second)?;
-    unused_of_sheet(plan, first)?;
-    unused_of_sheet(plan, second)
+    sheet_length(Rows, plan, first)?;
+    sheet_length(Rows, plan, second)?;
+    unused_of_sheet(Rows, plan, first)?;
+    unused_of_sheet(Rows, plan, second)
 }
 
 /// Reading a stack: checks 20, 21 and 12. Where each of its sheets lies, if none fails.
@@ -59,8 +73,8 @@ pub fn check_reading_stack(
 
 /// Summing a run: checks 11, 13 and 24.
 pub fn check_summing(plan: &Plan, sheet: &[u8], sums: &[u8]) -> Result<(), Answer> {
-    sheet_length(plan, sheet)?;
-    unused_of_sheet(plan, sheet)?;
+    sheet_length(Rows, plan, sheet)?;
+    unused_of_sheet(Rows, plan, sheet)?;
     sums_length(sums)
 }
 
@@ -76,15 +90,15 @@ pub fn check_altering_by(
     position: u32,
     sums: impl Fn(&Plan, &[u8]) -> u64,
 ) -> Result<(), Answer> {
-    sheet_length(plan, sheet)?;
-    unused_of_sheet(plan, sheet)?;
+    sheet_length(Rows, plan, sheet)?;
+    unused_of_sheet(Rows, plan, sheet)?;
     position_of_data(plan, position)?;
     belonging(sums(plan, sheet))
 }
 
 /// Check 11.
-fn sheet_length(plan: &Plan, sheet: &[u8]) -> Result<(), Answer> {
-    Answer::refuse_if(sheet.len() != plan.sheet_len(), 11)
+fn sheet_length(layout: Layout, plan: &Plan, sheet: &[u8]) -> Result<(), Answer> {
+    Answer::refuse_if(sheet.len() != layout.sheet_len(plan), 11)
 }
 
 /// Check 12.
@@ -100,10 +114,10 @@ fn unused_of_data(plan: &Plan, data: &[u8]) -> Result<(), Answer> {
 }
 
 /// Check 13 of a sheet of the right length.
-fn unused_of_sheet(plan: &Plan, sheet: &[u8]) -> Result<(), Answer> {
-    let unused = unused_bits(plan);
-    let mut row_ends = (0..plan.n1).map(|row| (row + 1) * plan.row_len() - 1);
-    let byte = row_ends.find(|&byte| sheet[byte] & unused != 0);
+fn unused_of_sheet(layout: Layout, plan: &Plan, sheet: &[u8]) -> Result<(), Answer> {
+    let unused = layout.unused_bits(plan);
+    let mut line_ends = (1..=layout.lines(plan)).map(|past| past * layout.line_len(plan) - 1);
+    let byte = line_ends.find(|&byte| sheet[byte] & unused != 0);
     Answer::refuse_at(byte.map(|byte| (byte, 0)), 13)
 }
 

@@ -2,6 +2,7 @@
 
 use super::accept::{dependent_strips, dependent_windows};
 use super::algebra::Span;
+use super::sheet::cells;
 use crate::answer::Answer;
 use crate::given::Given;
 use crate::plan::Plan;
@@ -46,8 +47,7 @@ pub fn power(k: usize, degree: usize, low: u32) -> u32 {
 
 /// Check cells in sheet order, each if its joint entry is no exclusive-or of those taken.
 fn taken_cells(plan: &Plan) -> Vec<(u16, u16)> {
-    let cells = (0..plan.n1).flat_map(|i| (0..plan.n2).map(move |j| (i, j)));
     let mut taken = Span::default();
-    let free = cells.filter(|&(i, j)| taken.add(plan.joint(i, j)));
+    let free = cells(plan).filter(|&(i, j)| taken.add(plan.joint(i, j)));
     free.map(|(i, j)| (i as u16, j as u16)).collect()
 }

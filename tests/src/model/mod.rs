@@ -1,10 +1,12 @@
-//! The ten calls, by the words of documents 01 and 02 (requests a and c to h) and with no eye to speed beyond
-//! what full-size sheets ask for.
+//! The fourteen calls, by the words of documents 01 and 02 (requests a and c to i) and with no eye to speed
+//! beyond what full-size sheets ask for.
 
 mod accept;
 mod algebra;
 mod alter;
 mod buffers;
+mod columns;
+mod layout;
 mod maker;
 mod mend;
 mod run;
@@ -17,18 +19,25 @@ pub use algebra::{independent, solve, Span};
 pub use alter::{altered_data, altered_sheet};
 pub use buffers::{
     check_altering_by, check_comparing, check_reading, check_reading_stack, check_reading_two,
-    check_summing,
+    check_summing, check_turning, check_writing,
 };
+pub use columns::{
+    read_by_column, read_by_column_accepted, turn, turn_accepted, write_by_column,
+    write_by_column_accepted,
+};
+pub use layout::{by_columns, by_rows, Layout};
 pub use maker::{made_plan, power};
 pub use mend::{burst_by_search, burst_by_trial, smallest_rectangle};
 pub use run::{run_sums, Sums};
-pub use sheet::{cell, data_cells, data_of, syndrome, turn_over, unused_bits, write_sheet, Cell};
+pub use sheet::{
+    cell, cells, data_cells, data_of, syndrome, turn_over, unused_bits, write_sheet, Cell,
+};
 pub use stack::sheet_places;
 pub use two::{data_of_two, differing_row, mended_data};
 
 use std::ops::Range;
 
-use buffers::{check_altering, check_writing};
+use buffers::check_altering;
 use stack::read_each;
 
 use crate::answer::Answer;
@@ -62,7 +71,7 @@ pub fn write(plan: &[u8], data: &[u8], sheet: &mut [u8]) -> Answer {
 
 /// `write` under a plan that is known to be accepted: checks 11 to 13.
 pub fn write_accepted(plan: &Plan, data: &[u8], sheet: &mut [u8]) -> Answer {
-    if let Err(refusal) = check_writing(plan, data, sheet) {
+    if let Err(refusal) = check_writing(Layout::Rows, plan, data, sheet) {
         return refusal;
     }
     sheet.copy_from_slice(&write_sheet(plan, data));
@@ -79,7 +88,7 @@ pub fn read(plan: &[u8], sheet: &mut [u8], data: &mut [u8]) -> Answer {
 
 /// `read` under a plan that is known to be accepted: checks 11 to 14.
 pub fn read_accepted(plan: &Plan, sheet: &mut [u8], data: &mut [u8]) -> Answer {
-    if let Err(refusal) = check_reading(plan, sheet, data) {
+    if let Err(refusal) = check_reading(Layout::Rows, plan, sheet, data) {
         return refusal;
     }
     let Some(burst) = burst_by_search(plan, sheet) else {

@@ -1,26 +1,29 @@
-//! Sheets as bytes: cells, syndrome, data, and the written sheet.
+//! Sheets by rows as bytes: cells, syndrome, data, and the written sheet.
 
 use super::algebra::solve;
+use super::layout::Layout;
 use crate::plan::Plan;
 
 /// Row and column.
 pub type Cell = (usize, usize);
 
-/// Is the cell dark?
-pub fn cell(plan: &Plan, sheet: &[u8], (i, j): Cell) -> bool {
-    sheet[i * plan.row_len() + j / 8] >> (j % 8) & 1 == 1
+/// All cells in sheet order.
+pub fn cells(plan: &Plan) -> impl Iterator<Item = Cell> + '_ {
+    (0..plan.n1).flat_map(|i| (0..plan.n2).map(move |j| (i, j)))
 }
 
-pub fn turn_over(plan: &Plan, sheet: &mut [u8], (i, j): Cell) {
-    sheet[i * plan.row_len() + j / 8] ^= 1 << (j % 8);
+/// Is the cell dark?
+pub fn cell(plan: &Plan, sheet: &[u8], at: Cell) -> bool {
+    Layout::Rows.cell(plan, sheet, at)
+}
+
+pub fn turn_over(plan: &Plan, sheet: &mut [u8], at: Cell) {
+    Layout::Rows.turn_over(plan, sheet, at);
 }
 
 /// The bits of a row's last byte that no column uses.
 pub fn unused_bits(plan: &Plan) -> u8 {
-    match plan.n2 % 8 {
-        0 => 0,
-        used => 0xff << used,
-    }
+    Layout::Rows.unused_bits(plan)
 }
 
 /// The two sums of a sheet as one number, V + 2^rv × H. It is 0 if the sheet belongs to the plan.

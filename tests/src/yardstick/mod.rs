@@ -3,6 +3,7 @@
 
 mod alter;
 mod best;
+mod columns;
 mod maker;
 mod plain;
 mod sheets;
@@ -10,6 +11,7 @@ mod stack;
 mod two;
 
 pub use alter::alter_accepted;
+pub use columns::{read_by_column_accepted, turn_accepted, write_by_column_accepted};
 pub use sheets::{read_accepted, sum_accepted, write_accepted};
 pub use stack::read_stack_accepted;
 pub use two::{first_difference_accepted, read_two_accepted};
@@ -18,7 +20,7 @@ use std::ops::Range;
 
 use crate::answer::{Answer, Places};
 use crate::given::Given;
-use crate::model::accept_by;
+use crate::model::{accept_by, Layout};
 use crate::plan::Plan;
 
 /// The plan test in plain Rust: the first window's basis is built once for each i, and the second
@@ -76,6 +78,26 @@ pub fn plain_first_difference(plan: &[u8], first: &[u8], second: &[u8]) -> Range
 pub fn plain_read_stack(plan: &[u8], stack: &mut [u8], numbers: &mut [u8], data: &mut [u8]) -> u64 {
     let plan = accept_by(plan, plain::windows, plain::strips);
     told(plan.and_then(|plan| read_stack_accepted(&plan, stack, numbers, data)))
+}
+
+/// Writing a sheet by columns in plain Rust: the plain plan test, the checks of the buffers, and the sheet.
+pub fn plain_write_by_column(plan: &[u8], data: &[u8], sheet: &mut [u8]) -> u64 {
+    let plan = accept_by(plan, plain::windows, plain::strips);
+    told(plan.and_then(|plan| write_by_column_accepted(&plan, data, sheet)))
+}
+
+/// Reading a sheet by columns in plain Rust: the plain plan test, the checks of the buffers, and the sheet.
+pub fn plain_read_by_column(plan: &[u8], sheet: &mut [u8], data: &mut [u8]) -> u64 {
+    match accept_by(plan, plain::windows, plain::strips) {
+        Ok(plan) => read_by_column_accepted(&plan, sheet, data).pack(),
+        Err(refusal) => refusal.pack(),
+    }
+}
+
+/// Turning a sheet in plain Rust: the plain plan test, the checks of the buffers, and each cell.
+pub fn plain_turn(from: Layout, plan: &[u8], source: &[u8], target: &mut [u8]) -> u64 {
+    let plan = accept_by(plan, plain::windows, plain::strips);
+    told(plan.and_then(|plan| turn_accepted(from, &plan, source, target)))
 }
 
 fn told<T>(outcome: Result<T, Answer>) -> u64 {

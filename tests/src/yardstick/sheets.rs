@@ -1,29 +1,51 @@
 //! Writing, reading and summing beyond the plan test, in plain Rust: one pass over the cells, row by row,
-//! with the remainders counted along.
+//! with the remainders counted along. Writing and reading are shared by both layouts.
 
 use std::ops::Range;
 
 use crate::answer::Answer;
-use crate::model::{check_summing, smallest_rectangle, solve, Cell, Sums};
+use crate::model::{check_summing, smallest_rectangle, solve, Cell, Layout, Sums};
 use crate::plan::Plan;
 
 /// Write under an accepted plan, with buffers of the right length and unused bits 0.
 pub fn write_accepted(plan: &Plan, data: &[u8], sheet: &mut [u8]) {
+    write_by(plan, data, sheet, |at| Layout::Rows.place(plan, at), whole);
+}
+
+/// Write a sheet of which each cell has this byte and bit, and which is summed in this way.
+pub(super) fn write_by(
+    plan: &Plan,
+    data: &[u8],
+    sheet: &mut [u8],
+    place: impl Fn(Cell) -> (usize, usize),
+    sums: impl Fn(&Plan, &[u8]) -> Sums,
+) {
     sheet.fill(0);
     let mut bit = 0;
-    each_data_cell(plan, |byte, shift| {
+    each_data_cell(plan, |at| {
+        let (byte, shift) = place(at);
         sheet[byte] |= (data[bit / 8] >> (bit % 8) & 1) << shift;
         bit += 1;
     });
-    for (i, j) in checks_with(plan, joint_sum(plan, sheet)) {
-        sheet[i * plan.row_len() + j / 8] |= 1 << (j % 8);
+    for at in checks_with(plan, joint(plan, sums(plan, sheet))) {
+        let (byte, shift) = place(at);
+        sheet[byte] |= 1 << shift;
     }
 }
 
-/// The two sums of a sheet as one number, V + 2^rv × H.
-pub(super) fn joint_sum(plan: &Plan, sheet: &[u8]) -> u64 {
-    let (v, h) = sums(plan, sheet, 0..plan.n1);
+/// The two sums of a sheet by rows.
+fn whole(plan: &Plan, sheet: &[u8]) -> Sums {
+    sums(plan, sheet, 0..plan.n1)
+}
+
+/// Two sums as one number, V + 2^rv × H.
+fn joint(plan: &Plan, (v, h): Sums) -> u64 {
     u64::from(v) | u64::from(h) << plan.rv
+}
+
+/// The two sums of a sheet by rows as one number.
+pub(super) fn joint_sum(plan: &Plan, sheet: &[u8]) -> u64 {
+    joint(plan, whole(plan, sheet))
 }
 
 /// The check cells whose joint entries come to this sum.
@@ -36,15 +58,28 @@ pub(super) fn checks_with(plan: &Plan, sum: u64) -> impl Iterator<Item = Cell> +
 
 /// Read under an accepted plan, with buffers of the right length and unused bits 0.
 pub fn read_accepted(plan: &Plan, sheet: &mut [u8], data: &mut [u8]) -> Answer {
-    let Some(burst) = burst(plan, sums(plan, sheet, 0..plan.n1)) else {
+    read_by(plan, sheet, data, |at| Layout::Rows.place(plan, at), whole)
+}
+
+/// Read a sheet of which each cell has this byte and bit, and which is summed in this way.
+pub(super) fn read_by(
+    plan: &Plan,
+    sheet: &mut [u8],
+    data: &mut [u8],
+    place: impl Fn(Cell) -> (usize, usize),
+    sums: impl Fn(&Plan, &[u8]) -> Sums,
+) -> Answer {
+    let Some(burst) = burst(plan, sums(plan, sheet)) else {
         return Answer::refusal(14, 0, 0);
     };
-    for &(i, j) in &burst {
-        sheet[i * plan.row_len() + j / 8] ^= 1 << (j % 8);
+    for &at in &burst {
+        let (byte, shift) = place(at);
+        sheet[byte] ^= 1 << shift;
     }
     data.fill(0);
     let mut bit = 0;
-    each_data_cell(plan, |byte, shift| {
+    each_data_cell(plan, |at| {
+        let (byte, shift) = place(at);
         data[bit / 8] |= (sheet[byte] >> shift & 1) << (bit % 8);
         bit += 1;
     });
@@ -65,14 +100,14 @@ pub fn sum_accepted(
     Ok(())
 }
 
-/// Byte and bit of each cell that is not a check cell, in the order of the data.
-fn each_data_cell(plan: &Plan, mut visit: impl FnMut(usize, usize)) {
+/// Each cell that is not a check cell, in the order of the data.
+fn each_data_cell(plan: &Plan, mut visit: impl FnMut(Cell)) {
     let mut left = &plan.checks[..];
     for i in 0..plan.n1 {
         let (row, rest) = left.split_at(left.partition_point(|&(row, _)| usize::from(row) == i));
         left = rest;
         let checks = row.iter().map(|&(_, j)| usize::from(j));
-        let at = |j| visit(i * plan.row_len() + j / 8, j % 8);
+        let at = |j| visit((i, j));
         if i % 2 == 0 {
             each_other(0..plan.n2, checks, at);
         } else {
@@ -95,7 +130,7 @@ fn each_other(
     }
 }
 
-/// The V sum and the H sum of a run.
+/// The V sum and the H sum of a run of rows.
 fn sums(plan: &Plan, sheet: &[u8], run: Range<usize>) -> Sums {
     let (mut v_sum, mut h_sum) = (0, 0);
     let rows = sheet.chunks(plan.row_len()).enumerate();

@@ -2,7 +2,7 @@
 
 use super::sheets::read_accepted;
 use crate::answer::Answer;
-use crate::model::{check_reading, check_reading_stack};
+use crate::model::{check_reading, check_reading_stack, Layout};
 use crate::plan::Plan;
 
 /// Read a stack under an accepted plan: checks 20, 21 and 12, then each sheet with checks 13 and 14.
@@ -16,7 +16,7 @@ pub fn read_stack_accepted(
     for (at, (place, into)) in places.into_iter().zip(numbers.chunks_mut(16)).enumerate() {
         let text = &mut data[at * plan.data_len()..(at + 1) * plan.data_len()];
         let sheet = &mut stack[place];
-        let answer = match check_reading(plan, sheet, text) {
+        let answer = match check_reading(Layout::Rows, plan, sheet, text) {
             Ok(()) => read_accepted(plan, sheet, text),
             Err(refusal) => refusal,
         };

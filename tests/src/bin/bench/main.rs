@@ -9,6 +9,7 @@
 mod alter;
 #[cfg(feature = "before")]
 mod before;
+mod columns;
 mod making;
 mod plan_test;
 mod runs;
@@ -33,6 +34,8 @@ fn main() {
     two::two_scans();
     two::differences();
     stack::stacks();
+    columns::columns();
+    columns::turns();
     #[cfg(feature = "before")]
     before::beside();
 }

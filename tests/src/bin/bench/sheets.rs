@@ -4,7 +4,8 @@ use std::cell::RefCell;
 use std::hint::black_box;
 
 use sheet_tests::ffi::{Archive, SHEET};
-use sheet_tests::model::write_sheet;
+use sheet_tests::model::{write_sheet, Cell, Layout};
+use sheet_tests::plan::Plan;
 use sheet_tests::rng::Rng;
 use sheet_tests::scans::{burst, random_data, turned};
 use sheet_tests::yardstick::{read_accepted, write_accepted};
@@ -25,31 +26,41 @@ pub fn write_and_read() {
     }
 }
 
-/// What is timed: a plan, data, the sheet written from them, and a scan of it with a full burst in
-/// the last corner, where a search in sheet order comes last.
+/// What is timed: a plan, data, the sheet written from them in one of the layouts, and a scan of it.
 pub struct Job<'a> {
     pub subject: &'a Subject,
-    bytes: Vec<u8>,
-    data: Vec<u8>,
-    written: Vec<u8>,
+    pub bytes: Vec<u8>,
+    pub data: Vec<u8>,
+    pub written: Vec<u8>,
     scan: Vec<u8>,
-    sheet: RefCell<Vec<u8>>,
-    into: RefCell<Vec<u8>>,
+    pub sheet: RefCell<Vec<u8>>,
+    pub into: RefCell<Vec<u8>>,
+}
+
+/// A full burst in the last corner, where a search in sheet order comes last.
+pub fn last_corner(plan: &Plan) -> Vec<Cell> {
+    burst(plan, plan.n1 - plan.b1, plan.n2 - plan.b2, u32::MAX)
 }
 
 impl Job<'_> {
+    /// Random data, and a scan by rows with a full burst in the last corner.
     pub fn new<'a>(subject: &'a Subject, rng: &mut Rng) -> Job<'a> {
+        let data = random_data(&subject.plan, rng);
+        Job::of(subject, Layout::Rows, data, &last_corner(&subject.plan))
+    }
+
+    /// This data, and a scan in this layout with these cells turned over.
+    pub fn of<'a>(subject: &'a Subject, layout: Layout, data: Vec<u8>, cells: &[Cell]) -> Job<'a> {
         let plan = &subject.plan;
-        let data = random_data(plan, rng);
-        let written = write_sheet(plan, &data);
-        let cells = burst(plan, plan.n1 - plan.b1, plan.n2 - plan.b2, u32::MAX);
-        let scan = turned(plan, &written, &cells);
+        let sheet = write_sheet(plan, &data);
+        let scan = layout.of_rows(plan, turned(plan, &sheet, cells));
+        let written = layout.of_rows(plan, sheet);
         let sheet = RefCell::new(scan.clone());
         let into = RefCell::new(vec![0; data.len()]);
         Job { subject, bytes: plan.encode(), data, written, scan, sheet, into }
     }
 
-    fn restore(&self) {
+    pub fn restore(&self) {
         self.sheet.borrow_mut().copy_from_slice(&self.scan);
     }
 

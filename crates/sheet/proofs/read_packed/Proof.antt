@@ -1,14 +1,13 @@
--- `sheet::sheet_read` meets its contract: the reader's outcome, its numbers packed. Assumes nothing.
+-- `sheet::read_packed` meets its contract: the reader's outcome, its numbers packed. Assumes nothing.
 use mathlib.Core.Path.{ap}
 use native.Mathlib.Omega.{arith}
-use Rattle.layout.specs.declared.stored.Layout.the-variants.{ByRow}
 use Rattle.answer.specs.Answer.{InRange, packed}
 use Rattle.reader.specs.Read.{Outcome}
 use Rattle.sheet.specs.Calls.{reportFields, readReply, readCall}
 use Rattle.sheet.proofs.Ranges.{read-range}
 use borrow.Author.Needs.{needs}
-use Rattle.sheet.proofs.sheet_read.Statement.{statement}
-use Rattle.sheet.proofs.sheet_read.Tie as tie
+use Rattle.sheet.proofs.read_packed.Statement.{statement}
+use Rattle.sheet.proofs.read_packed.Tie as tie
 
 read-requires : tie.Need-read-requires
 read-requires c κs = search needs
@@ -19,7 +18,7 @@ pack-requires c κs =
     let s = b .before .before .before .before .before .before .args in
     let r = b .read .result in
     let f : InRange (reportFields (r .verdict) (r .report)) =
-    rw (ap (λ (o : Outcome). reportFields (o .verdict) (o .report)) (b .read .ensures)) (read-range ByRow (s .plan .now) (s .sheet .now) (s .bits .now)) in
+    rw (ap (λ (o : Outcome). reportFields (o .verdict) (o .report)) (b .read .ensures)) (read-range (s .lay) (s .plan .now) (s .sheet .now) (s .bits .now)) in
     omega arith
 
 same-length : tie.Need-same-length
@@ -34,6 +33,6 @@ returns c =
     let b = c .before .before .before .before .before .before .before in
     rw (c .pack .ensures) (ap (λ (o : Outcome). readReply (packed (reportFields (o .verdict) (o .report))) (o .sheet) (o .bits)) (b .read .ensures))
 
-pub sheet-read-spec : {M : Type 1} → statement M
-sheet-read-spec =
+pub read-packed-spec : {M : Type 1} → statement M
+read-packed-spec =
     tie.close (tie.spec read-requires pack-requires same-length same-length-2 returns)
