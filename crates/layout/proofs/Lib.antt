@@ -5,5 +5,4 @@ pub mod Joined
 pub mod Overwriting
 pub mod Turned
 pub mod Layouts
-pub mod Transposed
 pub mod Unused

@@ -3,5 +3,4 @@ pub mod Number
 pub mod Joined
 pub mod Cells
 pub mod Stored
-pub mod Transpose
 pub mod Differ

@@ -6,4 +6,3 @@ pub mod cycle;
 pub mod differ;
 pub mod number;
 pub mod stored;
-pub mod transpose;

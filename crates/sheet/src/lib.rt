@@ -22,7 +22,7 @@ use reader::read::read;
 use runsums::sum_run;
 use scans::reading::read_two;
 use stack::reading::read_stack;
-use transpose::turn_over;
+use transpose::turning::turn_over;
 use writer::writing::write;
 
 // Tests a plan: the number and places of the first check of document 01 that fails, or 0.

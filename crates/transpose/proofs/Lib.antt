@@ -1,2 +1,3 @@
 -- The laws of the definitions of specs/.
 pub mod Outcomes
+pub mod Transposed

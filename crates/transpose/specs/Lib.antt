@@ -1,2 +1,3 @@
--- A sheet turned into the other layout, as a call leaves it.
+-- A sheet turned into the other layout: how its bytes come about, and as a call leaves it.
+pub mod Exchanged
 pub mod Transpose

@@ -23,9 +23,9 @@ use lib.Arith.{digits-div, digits-mod}
 use lib.Pow.{pow-mono, shl-exact}
 use Rattle.finite.specs.Search.{bit, numberOf}
 use Rattle.finite.proofs.Digits.{number-below}
 use Rattle.layout.specs.Cells.{rowBytes, sheetBytes, byteOf, cellOf, usedBits, tabulate, byteFrom, bytesOf}
-use Rattle.layout.specs.Transpose.{exchanged, Begun}
 use Rattle.layout.proofs.Form.{length-tabulate, getD-tabulate}
+use Rattle.transpose.specs.Exchanged.{exchanged, Begun}
 
 -- ---- digits
 

@@ -1,15 +1,15 @@
--- `layout::transpose::transpose_row` meets its contract. The invariant: the rows before j and b bytes of row j are there. That it holds and
+-- `transpose::transposing::transpose_row` meets its contract. The invariant: the rows before j and b bytes of row j are there. That it holds and
 -- is kept stands first, so that a wrong program is refused there. Assumes nothing.
 use mathlib.Core.Path.{_≡_, sym, ap, _∙_}
 use Prim.Native.Nat.{ℕ, _+_, _-_, _*_, _≤_, min}
 use native.Mathlib.Nat.{add-zero}
 use native.Mathlib.Omega.{arith}
 use Rattle.finite.specs.Search.{numberOf}
 use Rattle.layout.specs.Cells.{rowBytes, cellOf}
-use Rattle.layout.specs.Transpose.{Begun}
-use Rattle.layout.proofs.Transposed.{rows-within, row-end, begun-more, begun-row}
-use Rattle.layout.proofs.transpose.transpose_row.Statement.{statement}
-use Rattle.layout.proofs.transpose.transpose_row.Tie as tie
+use Rattle.transpose.specs.Exchanged.{Begun}
+use Rattle.transpose.proofs.Transposed.{rows-within, row-end, begun-more, begun-row}
+use Rattle.transpose.proofs.transposing.transpose_row.Statement.{statement}
+use Rattle.transpose.proofs.transposing.transpose_row.Tie as tie
 
 abbrev Inv-loop : tie.InvT-loop
 Inv-loop source n1 n2 j target₀ size first b₀ target b =

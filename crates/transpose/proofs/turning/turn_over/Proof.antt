@@ -1,4 +1,4 @@
--- `transpose::turn_over` meets its contract: a refusal leaves the target, and where the checks pass all of it is written. Assumes nothing.
+-- `transpose::turning::turn_over` meets its contract: a refusal leaves the target, and where the checks pass all of it is written. Assumes nothing.
 use mathlib.Core.Path.{_≡_, refl, sym, ap, ap₂, _∙_}
 use native.Mathlib.Omega.{arith}
 use Rattle.layout.proofs.Layouts.{in-size}
@@ -9,8 +9,8 @@ use Rattle.buffers.proofs.Passing.{MayTranspose, transpose-zero, checked-passes
 use Rattle.transpose.specs.Transpose.{turnedSheet, turnedOver}
 use Rattle.transpose.proofs.Outcomes.{turn-refused, turn-done}
 use borrow.Author.Needs.{needs}
-use Rattle.transpose.proofs.turn_over.Statement.{statement}
-use Rattle.transpose.proofs.turn_over.Tie as tie
+use Rattle.transpose.proofs.turning.turn_over.Statement.{statement}
+use Rattle.transpose.proofs.turning.turn_over.Tie as tie
 
 slice-aggregate-transpose-checks : tie.Need-slice-aggregate-transpose-checks
 slice-aggregate-transpose-checks c = search needs

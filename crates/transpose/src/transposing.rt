@@ -3,13 +3,13 @@ ghost use mathlib.Core.Path.{_≡_};
 ghost use Prim.Native.Nat.{_+_, _*_, _≤_, _<_};
 ghost use lib.ListN.{length};
 ghost use Rattle.finite.specs.Search.{numberOf};
 ghost use Rattle.layout.specs.Cells.{rowBytes, sheetBytes, cellOf, bytesOf};
 ghost use Rattle.layout.specs.Stored.{Sizes, otherThan, sizeIn, transposed};
-ghost use Rattle.layout.specs.Transpose.{exchanged, Begun};
-use crate::cells::byte_of;
-use crate::cells::row_bytes;
-use crate::compare::smaller;
-use crate::stored::Layout;
+ghost use Rattle.transpose.specs.Exchanged.{exchanged, Begun};
+use layout::cells::byte_of;
+use layout::cells::row_bytes;
+use layout::compare::smaller;
+use layout::stored::Layout;
 
 // The cells of column j in count rows from row i on, in one byte: row i in the lowest bit. From row to row the place moves on by
 // the bytes of a row and the bit stays, so that no cell is looked up by itself.

@@ -1,10 +1,10 @@
--- `layout::transpose::transpose_in` meets its contract: each arm is told which layout it has. Assumes nothing.
+-- `transpose::transposing::transpose_in` meets its contract: each arm is told which layout it has. Assumes nothing.
 use native.Mathlib.Omega.{arith}
 use Rattle.layout.specs.Stored.{transposed}
-use Rattle.layout.specs.Transpose.{exchanged}
+use Rattle.transpose.specs.Exchanged.{exchanged}
 use borrow.Author.Needs.{needs}
-use Rattle.layout.proofs.transpose.transpose_in.Statement.{statement}
-use Rattle.layout.proofs.transpose.transpose_in.Tie as tie
+use Rattle.transpose.proofs.transposing.transpose_in.Statement.{statement}
+use Rattle.transpose.proofs.transposing.transpose_in.Tie as tie
 
 enum-told : tie.Need-enum-told
 enum-told c = search needs

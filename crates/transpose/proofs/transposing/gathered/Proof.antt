@@ -1,14 +1,14 @@
--- `layout::transpose::gathered` meets its contract. The invariant: the number has the cells of the first t rows, and k is the byte of the
+-- `transpose::transposing::gathered` meets its contract. The invariant: the number has the cells of the first t rows, and k is the byte of the
 -- cell that comes next. That it is kept stands first, so that a wrong program is refused there. Assumes nothing.
 use mathlib.Core.Path.{_≡_, refl, ap, ap₂, _∙_}
 use Prim.Native.Nat.{ℕ, _+_, _-_, _≤_, _<_}
 use native.Mathlib.Omega.{arith}
 use Rattle.finite.specs.Search.{numberOf}
 use Rattle.layout.specs.Cells.{rowBytes, sheetBytes, byteOf, cellOf}
 use Rattle.layout.proofs.Form.{byte-inside}
-use Rattle.layout.proofs.Transposed.{gathered-more, gathered-fits, byte-next, byte-fits}
-use Rattle.layout.proofs.transpose.gathered.Statement.{statement}
-use Rattle.layout.proofs.transpose.gathered.Tie as tie
+use Rattle.transpose.proofs.Transposed.{gathered-more, gathered-fits, byte-next, byte-fits}
+use Rattle.transpose.proofs.transposing.gathered.Statement.{statement}
+use Rattle.transpose.proofs.transposing.gathered.Tie as tie
 
 abbrev Inv-loop : tie.InvT-loop
 Inv-loop source n2 i j count size k₀ number₀ t₀ k number t =

@@ -1,12 +1,12 @@
--- `layout::transpose::transpose` meets its contract. The invariant: the first j rows of the target are there. Assumes nothing.
+-- `transpose::transposing::transpose` meets its contract. The invariant: the first j rows of the target are there. Assumes nothing.
 use mathlib.Core.Path.{_≡_, sym, _∙_}
 use Prim.Native.Nat.{_-_, _*_, _≤_}
 use native.Mathlib.Omega.{arith}
 use Rattle.layout.specs.Cells.{rowBytes}
-use Rattle.layout.specs.Transpose.{Begun}
-use Rattle.layout.proofs.Transposed.{begun-none, begun-all}
-use Rattle.layout.proofs.transpose.transpose.Statement.{statement}
-use Rattle.layout.proofs.transpose.transpose.Tie as tie
+use Rattle.transpose.specs.Exchanged.{Begun}
+use Rattle.transpose.proofs.Transposed.{begun-none, begun-all}
+use Rattle.transpose.proofs.transposing.transpose.Statement.{statement}
+use Rattle.transpose.proofs.transposing.transpose.Tie as tie
 
 abbrev Inv-loop : tie.InvT-loop
 Inv-loop source n1 n2 target₀ j₀ target j = Begun n1 n2 source (j * rowBytes n1) target × (j ≤ n2)
