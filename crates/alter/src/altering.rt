@@ -13,10 +13,10 @@ use crate::checks::alter_checks;
 use accept::checks::joint_entry;
 use layout::cells::turn;
 use layout::stored::Layout;
-use payload::find::data_cell;
 use plan::entry::header_of;
 use plan::header::Header;
 use plan::verdict::Verdict;
+use position::find::data_cell;
 use writer::balancing::balance;
 
 // The sheet after the alteration. It belonged to its plan, so its joint sum, with the cell turned over, is the joint entry of that cell.

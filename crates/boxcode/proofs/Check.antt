@@ -3,7 +3,7 @@
 --   number-row, number-column, number-on, number-cell    a cell and its number
 --   row-inside, column-inside    the cell with a number on the sheet
 --   order-below, order-twice     the two laws of the data's order; no other fact of it is used here
---   column-below, order-cell     a row of the order is that row of the sheet: for payload, which walks it
+--   column-below, order-cell     a row of the order is that row of the sheet: for position, which walks it
 --   check-rise, check-listed     the check cells rise in sheet order, and are different cells of the sheet
 --   check-row, check-column      a check cell from its number
 --   check-here, check-found, check-index   which numbers are check cells, and their places in the list

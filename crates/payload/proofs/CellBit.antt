@@ -23,11 +23,12 @@ use Rattle.boxcode.specs.Check.{checkAt, dataOrder, dataSize, rank, dataCell, d
 use Rattle.boxcode.proofs.Check.{number-row, number-column, number-on, rank-below, rank-data}
 use Rattle.boxcode.proofs.Fill.{data-cells}
 use Rattle.boxcode.proofs.One.{oneCell, check-data, turned-data}
-use Rattle.payload.specs.Walk.{checksBefore, nextCheck, rowEnds, dataBit}
-use Rattle.payload.specs.Placed.{Follows, bitTurned, bitTurnedIf}
+use Rattle.position.specs.Walk.{checksBefore, nextCheck, rowEnds, dataBit}
+use Rattle.position.specs.Placed.{Follows}
+use Rattle.position.proofs.Before.{both-before, next-ahead, next-check, next-free}
+use Rattle.position.proofs.Placed.{bit-room, bit-below, bit-rank}
 use Rattle.payload.specs.Packed.{packedData}
-use Rattle.payload.proofs.Before.{both-before, next-ahead, next-check, next-free}
-use Rattle.payload.proofs.Placed.{bit-room, bit-below, bit-rank}
+use Rattle.payload.specs.Held.{bitTurned, bitTurnedIf}
 
 module _ (c : Code) (F : Formed c) (i j : ℕ) (li : i < c .n1) (lj : j < c .n2) where
   -- the number of the cell in sheet order

@@ -1,9 +1,5 @@
 -- The laws of the definitions of specs/.
 pub mod Size
-pub mod Before
-pub mod Order
-pub mod Stand
 pub mod Run
 pub mod Progress
-pub mod Placed
 pub mod CellBit

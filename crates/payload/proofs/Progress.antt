@@ -34,10 +34,10 @@ use Rattle.boxcode.specs.Code.{Code, Formed, cellNumber}
 use Rattle.boxcode.specs.Syndrome.{Cells}
 use Rattle.boxcode.specs.Check.{Bits, checkAt, checkIndex, dataOrder, dataSize, rank, dataCell, fill, dataOf}
 use Rattle.boxcode.proofs.Check.{number-row, number-column, number-on, data-below, data-free, data-rank, rank-data, rank-below}
-use Rattle.payload.specs.declared.cursor.Cursor.{Cursor}
-use Rattle.payload.specs.Walk.{runLength, bitAt, At, Stepped}
+use Rattle.position.specs.declared.cursor.Cursor.{Cursor}
+use Rattle.position.specs.Walk.{runLength, bitAt, At, Stepped}
+use Rattle.position.proofs.Stand.{run-column, run-free, run-bit}
 use Rattle.payload.specs.Transfer.{putRun, takeRun}
-use Rattle.payload.proofs.Stand.{run-column, run-free, run-bit}
 
 -- ---- cells by their numbers
 

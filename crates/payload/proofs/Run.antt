@@ -20,12 +20,12 @@ use Rattle.layout.proofs.Turned.{turned-if-length}
 use Rattle.boxcode.specs.Code.{Code, Formed}
 use Rattle.boxcode.specs.Check.{dataSize}
 use Rattle.boxcode.proofs.Check.{sheet-cells}
-use Rattle.payload.specs.declared.cursor.Cursor.{Cursor}
-use Rattle.payload.specs.Walk.{runLength, bitAt, At}
+use Rattle.position.specs.declared.cursor.Cursor.{Cursor}
+use Rattle.position.specs.Walk.{runLength, bitAt, At}
+use Rattle.position.proofs.Before.{ends-most}
+use Rattle.position.proofs.Stand.{run-column, run-room, run-below}
 use Rattle.payload.specs.Transfer.{putRun, takeRun, Reaches}
 use Rattle.payload.proofs.Size.{place-inside}
-use Rattle.payload.proofs.Before.{ends-most}
-use Rattle.payload.proofs.Stand.{run-column, run-room, run-below}
 
 module _ (lay : Layout) (k n1 n2 : ℕ) (bits sheet : List ℕ) (r : Cursor) where
   -- one cell more, of what the code holds: b is the number of the data bit, and dark the cell or the bit

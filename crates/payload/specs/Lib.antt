@@ -1,5 +1,4 @@
--- The walk over the cells, and what is done at each.
+-- Data in bytes, and what is done at each cell.
 pub mod Packed
-pub mod Walk
 pub mod Transfer
-pub mod Placed
+pub mod Held

@@ -9,8 +9,8 @@ use mathlib.Core.List.{List}
 use Rattle.layout.specs.Cells.{byteOf, cellOf, turnedIf}
 use Rattle.layout.specs.Stored.{Sizes, sizeIn, cellIn, turnedIn}
 use Rattle.layout.specs.declared.stored.Layout.{Layout}
-use Rattle.payload.specs.declared.cursor.Cursor.{Cursor}
-use Rattle.payload.specs.Walk.{bitAt}
+use Rattle.position.specs.declared.cursor.Cursor.{Cursor}
+use Rattle.position.specs.Walk.{bitAt}
 
 unfoldable pub putRun : ℕ → ℕ → List ℕ → Layout → ℕ → ℕ → List ℕ → Cursor → List ℕ
 putRun zero k bits lay n1 n2 sheet r = sheet

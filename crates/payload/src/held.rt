@@ -7,13 +7,13 @@ ghost use Rattle.boxcode.specs.Code.{Formed};
 ghost use Rattle.boxcode.specs.Check.{dataSize};
 ghost use Rattle.plan.specs.Header.{Framed};
 ghost use Rattle.plan.specs.Bytes.{codeWith};
-ghost use Rattle.payload.specs.Placed.{bitTurned, bitTurnedIf};
-use crate::cursor::bit;
-use crate::cursor::checks_before;
-use crate::cursor::next_check;
-use crate::cursor::row_ends;
+ghost use Rattle.payload.specs.Held.{bitTurned, bitTurnedIf};
 use layout::cells::turn;
 use plan::header::Header;
+use position::cursor::bit;
+use position::cursor::checks_before;
+use position::cursor::next_check;
+use position::cursor::row_ends;
 
 // Turns the data bit of cell (i, j) over, and nothing where it is a check cell: so data keeps up with a cell that is turned over on its sheet.
 fn turn_bit(plan: &[u8], h: Header, bits: &mut [u8], i: usize, j: usize)

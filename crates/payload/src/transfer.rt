@@ -9,11 +9,6 @@ ghost use Rattle.plan.specs.Header.{Framed};
 ghost use Rattle.plan.specs.Bytes.{codeWith};
 ghost use Rattle.payload.specs.Packed.{filledBytes, packedData};
 ghost use Rattle.payload.specs.Transfer.{putRun, takeRun, Reaches};
-use crate::cursor::Cursor;
-use crate::cursor::bit;
-use crate::cursor::run;
-use crate::cursor::start;
-use crate::cursor::step;
 use layout::cells::cell;
 use layout::cells::clear;
 use layout::cells::turn_if;
@@ -21,6 +16,11 @@ use layout::stored::Layout;
 use layout::stored::cell_in;
 use layout::stored::turn_in;
 use plan::header::Header;
+use position::cursor::Cursor;
+use position::cursor::bit;
+use position::cursor::run;
+use position::cursor::start;
+use position::cursor::step;
 
 // The data bits of a run into its cells, which are light before.
 fn put_run(

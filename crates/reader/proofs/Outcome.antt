@@ -43,7 +43,7 @@ use Rattle.plan.proofs.Sequence.{else-first, else-second}
 use Rattle.buffers.specs.Buffers.{unusedVerdict, sheetUnused, lengthChecks, readChecks}
 use Rattle.buffers.proofs.Passing.{Lengths, lengths-pass}
 use Rattle.payload.specs.Packed.{packedData}
-use Rattle.payload.specs.Placed.{bitTurnedIf}
+use Rattle.payload.specs.Held.{bitTurnedIf}
 use Rattle.payload.proofs.CellBit.{held-turned-if}
 use Rattle.mend.specs.declared.report.Report.{Report}
 use Rattle.mend.specs.declared.found.Found.{Found}

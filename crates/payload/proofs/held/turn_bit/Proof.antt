@@ -4,8 +4,9 @@ use native.Mathlib.Omega.{arith}
 use Rattle.boxcode.specs.Code.{cellNumber}
 use Rattle.boxcode.specs.Check.{dataSize}
 use Rattle.boxcode.proofs.Check.{sheet-cells, checks-fit}
-use Rattle.payload.proofs.Size.{pair-most, place-inside}
-use Rattle.payload.proofs.Before.{passed, checks-most}
+use Rattle.position.proofs.Size.{pair-most}
+use Rattle.position.proofs.Before.{passed, checks-most}
+use Rattle.payload.proofs.Size.{place-inside}
 use Rattle.payload.proofs.CellBit.{held-check, held-room, held-below, held-bit}
 use borrow.Author.Needs.{needs}
 use Rattle.payload.proofs.held.turn_bit.Statement.{statement}

@@ -12,8 +12,8 @@ use Rattle.boxcode.proofs.Check.{sheet-cells, checks-fit}
 use Rattle.boxcode.specs.Syndrome.{Cells}
 use Rattle.plan.specs.declared.header.Header.{Header}
 use Rattle.plan.specs.Bytes.{codeWith}
-use Rattle.payload.specs.Walk.{At}
-use Rattle.payload.proofs.Stand.{at-most, at-ahead, past-end}
+use Rattle.position.specs.Walk.{At}
+use Rattle.position.proofs.Stand.{at-most, at-ahead, past-end}
 use Rattle.payload.proofs.Run.{reaches}
 use Rattle.payload.proofs.Progress.{putTo, put-first, put-step, put-all}
 use Rattle.payload.proofs.transfer.put.Statement.{statement}

@@ -3,7 +3,7 @@ use mathlib.Core.Path.{_≡_, refl, ap, _∙_}
 use Prim.Native.Nat.{_-_, _≤_}
 use native.Mathlib.Omega.{arith}
 use lib.ListN.{length}
-use Rattle.payload.specs.Walk.{bitAt}
+use Rattle.position.specs.Walk.{bitAt}
 use Rattle.payload.specs.Transfer.{putRun}
 use Rattle.payload.proofs.Run.{put-more, put-length}
 use borrow.Author.Needs.{needs}

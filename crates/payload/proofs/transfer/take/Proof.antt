@@ -9,8 +9,8 @@ use Rattle.layout.proofs.Form.{bytes-form, row-sheet}
 use Rattle.boxcode.specs.Check.{dataSize}
 use Rattle.boxcode.proofs.Check.{sheet-cells, checks-fit}
 use Rattle.plan.specs.Bytes.{codeWith}
-use Rattle.payload.specs.Walk.{At}
-use Rattle.payload.proofs.Stand.{at-most, at-ahead, past-end}
+use Rattle.position.specs.Walk.{At}
+use Rattle.position.proofs.Stand.{at-most, at-ahead, past-end}
 use Rattle.payload.proofs.Run.{reaches}
 use Rattle.payload.proofs.Progress.{takenTo, take-first, take-step, take-all}
 use Rattle.payload.proofs.transfer.take.Statement.{statement}
