@@ -1,4 +1,5 @@
 // The line that the program prints, from the bytes that it is given.
+ghost use mathlib.Core.Path.{_≡_};
 ghost use Prim.Native.Nat.{_+_, _*_, _≤_};
 ghost use lib.ListN.{length};
 ghost use Rattle.reader.specs.Read.{readOutcome};
@@ -13,6 +14,13 @@ use crate::print::put_ok;
 use layout::cells::clear;
 use layout::stored::Layout;
 use reader::read::read;
+
+// Room for the longest line.
+pub fn line_buffer() -> [u8; 89472]
+    ensures { λ r. ⌜ 89472 ≡ length r ⌝ }
+{
+    [0; 89472]
+}
 
 // The read of one sheet, and its line.
 fn read_line(plan: &[u8], sheet: &mut [u8], bits: &mut [u8], out: &mut [u8]) -> usize
