@@ -1,4 +1,5 @@
 # make run      a blotted sheet through the program sheetread (INPUT=file: another input)
+# make trial    the same through the program trialread, which reads small sheets by trial
 # make test     the whole gate, set-up included
 # make lib      libsheet.a, for C          make install PREFIX=/usr/local DESTDIR=
 # make bench    times beside plain Rust (BEFORE=commit: and beside that commit's library, in the same run)
@@ -11,19 +12,24 @@ PREFIX ?= /usr/local
 DESTDIR ?=
 LIB := target/staticlib/libsheet.a
 PROGRAM := target/bin/sheetread
+TRIAL := target/bin/trialread
 TABLE := target/bin/housetable
 SOURCES := crates.txt $(shell find crates -name '*.rt' -o -name '*.antt')
-INPUT ?= crates/sheetread/stdin
 N1 ?= 512
 N2 ?= 698
 B1 ?= 3
 B2 ?= 3
 MOST ?=
 
-.PHONY: run test lib host find table install bench clean
+.PHONY: run trial test lib host find table install bench clean
 
+run: INPUT ?= crates/sheetread/stdin
 run: $(PROGRAM)
 	@$(PROGRAM) < $(INPUT)
+
+trial: INPUT ?= crates/trialread/stdin
+trial: $(TRIAL)
+	@$(TRIAL) < $(INPUT)
 
 test:
 	@tests/run
@@ -37,7 +43,7 @@ $(LIB): $(SOURCES)
 	@touch $@
 
 # What is told meanwhile goes to standard error, so that only what the program prints is on standard output.
-$(PROGRAM) $(TABLE): $(SOURCES)
+$(PROGRAM) $(TRIAL) $(TABLE): $(SOURCES)
 	@scripts/prove check $(@F) >&2
 	@touch $@
 

@@ -1,7 +1,8 @@
 /*
  * A whole host: makes a plan for sheets of 16 rows and 40 columns and bursts of 3 by 3 cells, writes a drawing to a
- * sheet, puts a burst on it, sums it in two halves, reads it back, alters one stitch, reads two scans that each have a
- * burst, reads a stack of sheets from two rooms, reads a sheet that a scanner stored by columns, and shows each step.
+ * sheet, puts a burst on it, sums it in two halves, reads it back, and by trial too, alters one stitch, reads two scans
+ * that each have a burst, reads a stack of sheets from two rooms, reads a sheet that a scanner stored by columns, and
+ * shows each step.
  * Cells inside the mended rectangle are shown as O (dark) and o (light).
  *
  *     gcc -Iinclude examples/host.c target/staticlib/libsheet.a -o host && ./host
@@ -125,6 +126,14 @@ static int alter_stitch(size_t i, size_t j) {
     return memcmp(scan, sheet, SHEET_LEN) == 0 && memcmp(back, data, DATA_LEN) == 0;
 }
 
+/* The same scan by trial, for a small sheet that is shown: the same answer, sheet and data. */
+static int read_by_trial(uint64_t usual) {
+    memcpy(second, sheet, SHEET_LEN);
+    put_burst(second);
+    if (sheet_read_by_trial(plan, plan_len, second, SHEET_LEN, back, DATA_LEN) != usual) return 0;
+    return memcmp(second, sheet, SHEET_LEN) == 0 && memcmp(back, data, DATA_LEN) == 0;
+}
+
 /* A row as it lies in the second scan, where a part of that begins. */
 static void show_row(const uint8_t *row) {
     for (size_t j = 0; j < COLUMNS; j++) putchar(dark(row, 0, j) ? '#' : '.');
@@ -239,6 +248,8 @@ int main(void) {
            sheet_answer_width(answer));
     if (memcmp(scan, sheet, SHEET_LEN) != 0 || memcmp(back, data, DATA_LEN) != 0) return 1;
     printf("the sheet and its data are as written\n");
+    if (!read_by_trial(answer)) return 1;
+    printf("by trial, pattern after pattern, it is read as the same\n");
 
     if (!alter_stitch(7, 16)) return 1;
     show("\nthe stitch at row 7, column 16 altered, and with it check cells:", scan, 0);

@@ -1,11 +1,11 @@
 /*
  * sheet.h: pattern sheets that survive one burst.
  *
- * Fourteen calls on byte buffers: make a plan, make the house plan, test a plan, write a sheet, read a sheet, sum a run
+ * Fifteen calls on byte buffers: make a plan, make the house plan, test a plan, write a sheet, read a sheet, sum a run
  * of rows, alter one data bit of a sheet, read two scans of one film, find the row where two scans first differ, read a
- * stack of sheets, write a sheet by columns, read one, turn a sheet by rows into one by columns, and turn one by
- * columns into one by rows. Each answers one 64-bit number, which the functions below take apart. The bytes of plans,
- * sheets, stacks and data are described in docs/FORMAT.md.
+ * stack of sheets, write a sheet by columns, read one, turn a sheet by rows into one by columns, turn one by columns
+ * into one by rows, and read a sheet by trial. Each answers one 64-bit number, which the functions below take apart.
+ * The bytes of plans, sheets, stacks and data are described in docs/FORMAT.md.
  *
  * Promise, proved for every accepted plan (docs/PROMISE.md): a sheet that sheet_write made, with any cells of one
  * rectangle of the plan's b1 rows and b2 columns turned over, is read back by sheet_read as it was written. Two scans
@@ -81,7 +81,7 @@ enum {
 enum {
     SHEET_PLAN_MAKE_STACK = 98304,    /* sheet_plan_make, and sheet_house_plan */
     SHEET_PLAN_TEST_STACK = 65536,    /* sheet_plan_test */
-    SHEET_WRITE_READ_STACK = 65536,   /* sheet_write, and sheet_read */
+    SHEET_WRITE_READ_STACK = 65536,   /* sheet_write, sheet_read, and sheet_read_by_trial */
     SHEET_SUMS_STACK = 65536,         /* sheet_sums */
     SHEET_ALTER_STACK = 65536,        /* sheet_alter */
     SHEET_READ_TWO_STACK = 65536,     /* sheet_read_two */
@@ -261,6 +261,16 @@ uint64_t sheet_to_columns(const uint8_t *plan, size_t plan_len, const uint8_t *s
  */
 uint64_t sheet_to_rows(const uint8_t *plan, size_t plan_len, const uint8_t *source, size_t source_len, uint8_t *target,
                        size_t target_len);
+
+/*
+ * Reads a sheet by trial, to show small sheets with a reader that anyone can follow: each rectangle of b1 rows and b2
+ * columns in sheet order, in each every pattern by its number, from 0 on, until both sums are 0. The answer and every
+ * byte that is left are those of sheet_read, whatever is handed in. Its time grows with the rectangles on the sheet
+ * times the patterns of one, (n1 - b1 + 1) (n2 - b2 + 1) 2^(b1 b2), and is longest where the answer is 14. On a sheet
+ * of 8 by 8 cells these are 18,432 for bursts of 3 by 3 and 1,638,400 for 4 by 4; under the house plan 181,739,520.
+ */
+uint64_t sheet_read_by_trial(const uint8_t *plan, size_t plan_len, uint8_t *sheet, size_t sheet_len, uint8_t *data,
+                             size_t data_len);
 
 /* An answer taken apart (docs/ANSWER.md). */
 static inline unsigned sheet_answer_number(uint64_t answer) { return (unsigned)(answer & 31u); }

@@ -73,11 +73,6 @@ static void read_as(unsigned p, const char *sheet, size_t len, uint64_t answer, 
     free(scan);
 }
 
-static uint64_t mended(unsigned cells, unsigned top, unsigned left, unsigned height, unsigned width) {
-    return (uint64_t)cells << 33 | (uint64_t)top << 38 | (uint64_t)left << 47 | (uint64_t)height << 57 |
-           (uint64_t)width << 60;
-}
-
 /*
  * The sheets of document 01 with their cells by columns; and of the tall plan the first data bit, (1, 1), which (0, 0),
  * (0, 1) and (1, 0) bring back to sums of 0, and the last, (8, 1), which (0, 1) and (7, 0) do.

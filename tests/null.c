@@ -120,6 +120,15 @@ int main(void) {
     answer = sheet_read_by_column(plan_n, n, scan, 2, NULL, 0);
     expect("columns read, k = 0", sheet_answer_cells(answer) == 1 && sheet_answer_left(answer) == 1 && scan[1] == 0);
 
+    expect("trial, no plan", answers(sheet_read_by_trial(NULL, 0, sheet, 1, data, 1), SHEET_PLAN_SHORT));
+    expect("trial, nothing", answers(sheet_read_by_trial(NULL, 0, NULL, 0, NULL, 0), SHEET_PLAN_SHORT));
+    expect("trial, no sheet", answers(sheet_read_by_trial(plan_s, s, NULL, 0, data, 1), SHEET_SHEET_LENGTH));
+    expect("trial, no data", answers(sheet_read_by_trial(plan_s, s, scan, 3, NULL, 0), SHEET_DATA_LENGTH));
+    expect("trial, neither", answers(sheet_read_by_trial(plan_n, n, NULL, 0, NULL, 0), SHEET_SHEET_LENGTH));
+    sheet[0] = 2;
+    answer = sheet_read_by_trial(plan_n, n, sheet, 1, NULL, 0);
+    expect("trial, k = 0", sheet_answer_cells(answer) == 1 && sheet_answer_left(answer) == 1 && sheet[0] == 0);
+
     expect("turned, no plan", answers(sheet_to_columns(NULL, 0, sheet, 1, scan, 2), SHEET_PLAN_SHORT) &&
                                   answers(sheet_to_rows(NULL, 0, scan, 2, sheet, 1), SHEET_PLAN_SHORT));
     expect("turned, nothing", answers(sheet_to_columns(NULL, 0, NULL, 0, NULL, 0), SHEET_PLAN_SHORT) &&

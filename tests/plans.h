@@ -1,6 +1,6 @@
 /*
- * What the tests in C share of plans: S and T of document 01, S so altered that it is turned back, and the cells of the
- * house plan.
+ * What the tests in C share of plans: S and T of document 01, S so altered that it is turned back, the cells of the
+ * house plan; and answers put together.
  */
 #ifndef PLANS_H
 #define PLANS_H
@@ -35,6 +35,12 @@ typedef struct {
 } refusal;
 
 static inline uint64_t told(refusal r) { return r.number | (uint64_t)r.p << 5 | (uint64_t)r.q << 21; }
+
+/* The answer of a read that turned over so many cells, of this smallest rectangle. */
+static inline uint64_t mended(unsigned cells, unsigned top, unsigned left, unsigned height, unsigned width) {
+    return (uint64_t)cells << 33 | (uint64_t)top << 38 | (uint64_t)left << 47 | (uint64_t)height << 57 |
+           (uint64_t)width << 60;
+}
 
 /* S as it is turned back by each check of a plan, in a buffer of its own, with what is told. */
 static inline void each_wrong_plan(void (*hand_over)(const uint8_t *plan, size_t len, refusal r)) {

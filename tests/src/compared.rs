@@ -1,5 +1,7 @@
 //! The library beside the model.
 
+mod trial;
+
 use std::ops::Range;
 
 use crate::answer::Answer;

@@ -1,4 +1,4 @@
-//! An independent model of the product of document 01 (01-scope.md) and of requests a and c to i of
+//! An independent model of the product of document 01 (01-scope.md) and of requests a and c to j of
 //! document 02 (02-change-requests.md), written from their words alone, and what the tests and timings
 //! of libsheet.a need beside it.
 //!
@@ -24,9 +24,11 @@ pub mod model;
 pub mod pairs;
 pub mod plan;
 pub mod positions;
+pub mod refused;
 pub mod rng;
 pub mod runs;
 pub mod scans;
 pub mod stacks;
 pub mod tally;
+pub mod trials;
 pub mod yardstick;

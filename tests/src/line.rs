@@ -1,4 +1,4 @@
-//! The line that the program `sheetread` prints for what stands on its standard input.
+//! The line that the programs `sheetread` and `trialread` print for what stands on their standard input.
 
 use crate::model;
 use crate::plan::{field, header_field, HEADER_LEN};

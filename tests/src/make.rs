@@ -200,19 +200,39 @@ pub fn burst_sizes() -> impl Iterator<Item = (usize, usize)> {
 /// burst. Some have exactly b1 rows or b2 columns, and some of these have no data bits at all.
 pub fn accepted(rng: &mut Rng, b1: usize, b2: usize, more: usize) -> Plan {
     loop {
-        let Some(shape) = random_shape(rng, b1, b2, more) else { continue };
-        let order = rng.pick(&[CellOrder::Sheet, CellOrder::Scattered]);
-        let Some(plan) = with_random_tables(rng, shape).with_checks(order, rng) else { continue };
-        if !model::test_plan(&plan.encode()).is_refusal() {
+        let shape = random_shape(rng, b1, b2, more);
+        if let Some(plan) = shape.and_then(|shape| accepted_in(rng, shape)) {
             return plan;
         }
     }
+}
+
+/// A random accepted plan for bursts of b1 × b2 on n1 rows and n2 columns. Not every size has one: a sheet of just one
+/// burst's size has too few cells.
+pub fn accepted_of(rng: &mut Rng, [n1, n2, b1, b2]: [usize; 4]) -> Plan {
+    let tried = (0..10_000).find_map(|_| {
+        let shape = shape_of(rng, [n1, n2, b1, b2])?;
+        accepted_in(rng, shape)
+    });
+    tried.unwrap_or_else(|| panic!("no plan is found for {n1} x {n2} and {b1} x {b2}"))
+}
+
+/// The plan of this shape with random tables, if it is accepted.
+fn accepted_in(rng: &mut Rng, shape: Plan) -> Option<Plan> {
+    let order = rng.pick(&[CellOrder::Sheet, CellOrder::Scattered]);
+    let plan = with_random_tables(rng, shape).with_checks(order, rng)?;
+    (!model::test_plan(&plan.encode()).is_refusal()).then_some(plan)
 }
 
 /// Sizes under which a plan can be accepted, tables and check list left empty.
 pub fn random_shape(rng: &mut Rng, b1: usize, b2: usize, more: usize) -> Option<Plan> {
     let mut size = |b: usize| if rng.one_in(6) { b } else { rng.within(b, b + more) };
     let (n1, n2) = (size(b1), size(b2));
+    shape_of(rng, [n1, n2, b1, b2])
+}
+
+/// Widths of the entries under which a plan of these sizes can be accepted, tables and check list left empty.
+fn shape_of(rng: &mut Rng, [n1, n2, b1, b2]: [usize; 4]) -> Option<Plan> {
     let (least_rv, least_rh) = least_widths(n1, n2, b1, b2);
     let rank = most_checks(n1, n2, b1, b2);
     let most_rv = 32.min(n1 * b2).min(rank.checked_sub(least_rh)?);

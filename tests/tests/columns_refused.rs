@@ -2,62 +2,15 @@
 //! the order of the checks, every number, every length, the places of unused bits.
 
 use sheet_tests::answer::Answer;
-use sheet_tests::cases::{plan_for_each_number, plan_s, plan_t, plan_tall};
 use sheet_tests::compared::Harness;
 use sheet_tests::damage::{alter_length, damaged, set_unused_of_data};
-use sheet_tests::kinds::{sheet_in, KINDS};
 use sheet_tests::make::{accepted, burst_sizes, least_1x1, plans_of_many_sizes, CellOrder};
 use sheet_tests::model::Layout;
-use sheet_tests::plan::Plan;
-use sheet_tests::rng::Rng;
+use sheet_tests::refused::{
+    any_sheet, first_of, lengths, number_if, plans_and_answers, spoilt, spoilt_lines, unused,
+};
 use sheet_tests::scans::{random_data, random_sheet};
 use sheet_tests::tally::Tally;
-
-/// Plans and what is told of them: one for each number, of the size of S; and T and a tall plan, of which the two
-/// layouts have different lengths. Beside each a plan of the same size that is accepted.
-fn plans_and_answers() -> Vec<(Vec<u8>, Answer, Plan)> {
-    let of_s = plan_for_each_number().into_iter().map(|(bytes, told)| (bytes, told, plan_s()));
-    let others = [plan_t(), plan_tall()].map(|plan| (plan.encode(), Answer::default(), plan));
-    of_s.chain(others).collect()
-}
-
-/// Lengths about the right one, and the other layout's.
-fn lengths(layout: Layout, plan: &Plan) -> Vec<usize> {
-    let right = layout.sheet_len(plan);
-    vec![right, layout.other().sheet_len(plan), 0, 1, right - 1, right + 1, 2 * right]
-}
-
-/// The first refusal of these, or the answer of a call that succeeds.
-fn first_of(all: &[Answer]) -> Answer {
-    all.iter().copied().find(|told| told.is_refusal()).unwrap_or_default()
-}
-
-fn number_if(fails: bool, number: u64) -> Answer {
-    Answer::refusal(if fails { number } else { 0 }, 0, 0)
-}
-
-/// Lines in which an unused bit is to be 1: none, one, or two.
-fn spoilt_lines(layout: Layout, plan: &Plan) -> Vec<Vec<usize>> {
-    let last = layout.lines(plan) - 1;
-    vec![vec![], vec![0], vec![last], vec![last / 2, last]]
-}
-
-/// A light sheet of this length in which the lines have an unused bit that is 1, as far as it has their last bytes.
-fn spoilt(layout: Layout, plan: &Plan, len: usize, lines: &[usize]) -> Vec<u8> {
-    let mut sheet = vec![0; len];
-    for line in lines {
-        if let Some(byte) = sheet.get_mut((line + 1) * layout.line_len(plan) - 1) {
-            *byte = 0x80;
-        }
-    }
-    sheet
-}
-
-/// What check 13 tells of these lines.
-fn unused(layout: Layout, plan: &Plan, lines: &[usize]) -> Answer {
-    let told = |line: &usize| Answer::refusal(13, (line + 1) * layout.line_len(plan) - 1, 0);
-    lines.first().map_or(Answer::default(), told)
-}
 
 /// The first check that fails is told, whatever else is wrong: the plan's number before all others, then 11, 12 and
 /// 13. A refusal changes nothing.
@@ -85,7 +38,7 @@ fn order_of_the_checks() {
                     writes.count(answer);
                 }
                 for lines in spoilt_lines(layout, &plan) {
-                    let sheet = spoilt(layout, &plan, sheet_len, &lines);
+                    let sheet = spoilt(layout, &plan, vec![0; sheet_len], &lines);
                     let bits = unused(layout, &plan, &lines);
                     let told = first_of(&[of_the_plan, of_the_sheet, of_the_data, bits]);
                     let answer = harness.read_by_column(&bytes, &sheet, data_len);
@@ -114,7 +67,7 @@ fn order_of_the_checks_of_turning() {
                 for target_len in lengths(to, &plan) {
                     let of_the_target = number_if(target_len != to.sheet_len(&plan), 11);
                     for lines in spoilt_lines(from, &plan) {
-                        let source = spoilt(from, &plan, source_len, &lines);
+                        let source = spoilt(from, &plan, vec![0; source_len], &lines);
                         let bits = unused(from, &plan, &lines);
                         let told = first_of(&[of_the_plan, of_the_source, of_the_target, bits]);
                         let answer = harness.turn(from, &bytes, &source, target_len);
@@ -162,19 +115,6 @@ fn every_length() {
         }
     }
     tally.require("sheets of other lengths", &[(11..=11, 5000)]);
-}
-
-/// A sheet of a random kind in this layout; sometimes it has another length, or that of the other layout.
-fn any_sheet(layout: Layout, plan: &Plan, rng: &mut Rng) -> Vec<u8> {
-    let kind = if rng.one_in(4) { rng.pick(&KINDS) } else { rng.pick(&KINDS[..2]) };
-    let mut sheet = sheet_in(layout, plan, kind, rng);
-    if rng.one_in(8) {
-        sheet.resize(layout.other().sheet_len(plan), 0);
-    }
-    if rng.one_in(8) {
-        alter_length(&mut sheet, rng);
-    }
-    sheet
 }
 
 /// Every number of writing and reading: good and damaged plans, sheets of every kind, buffers of right and wrong

@@ -4,7 +4,7 @@ use sheet_tests::answer::Answer;
 use sheet_tests::cases::{plan_s, plan_t};
 use sheet_tests::ffi::{
     alter, first_difference, house_plan, part, plan_make, read_stack, read_two, sums, turn,
-    BY_COLUMN, SHEET,
+    BY_COLUMN, BY_TRIAL, SHEET,
 };
 use sheet_tests::given::{Given, HOUSE};
 use sheet_tests::header::constant;
@@ -128,6 +128,27 @@ fn null_columns() {
             let (mut scan, mut into) = (sheet.clone(), data.clone());
             let (mut expected, mut expected_into) = (sheet, data);
             let told = model::read_by_column(&bytes, &mut expected, &mut expected_into);
+            assert_eq!(told.number, number, "{empty}");
+            assert_eq!(null.read(&bytes, &mut scan, &mut into), told.pack());
+            assert_eq!((scan, into), (expected, expected_into));
+        }
+    }
+}
+
+/// The same for reading by trial, in which nothing is to be mended.
+#[test]
+fn null_trial() {
+    let null = BY_TRIAL.with_null();
+    let with_data = [0, 1, 12, 1, 11, 1, 11, 1];
+    let without = [0, 1, 0, 1, 11, 1, 11, 1];
+    for (plan, numbers) in [(plan_s(), with_data), (plan_t(), with_data), (no_data(), without)] {
+        for (empty, number) in numbers.into_iter().enumerate() {
+            let bytes = kept(empty, 0, plan.encode());
+            let held = kept(empty, 1, vec![0xaa; plan.data_len()]);
+            let sheet = kept(empty, 2, vec![0; plan.sheet_len()]);
+            let (mut scan, mut into) = (sheet.clone(), held.clone());
+            let (mut expected, mut expected_into) = (sheet, held);
+            let told = model::read_by_trial(&bytes, &mut expected, &mut expected_into);
             assert_eq!(told.number, number, "{empty}");
             assert_eq!(null.read(&bytes, &mut scan, &mut into), told.pack());
             assert_eq!((scan, into), (expected, expected_into));

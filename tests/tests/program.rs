@@ -1,16 +1,18 @@
-//! The built programs: `sheetread` beside the model's line, what it prints for what stands on its
-//! standard input; and `housetable`, which prints a table and reads nothing. Their paths are in
-//! SHEETREAD and HOUSETABLE, or `../target/bin/` and the name.
+//! The built programs: `sheetread` and `trialread` beside the model's line, what each prints for what stands
+//! on its standard input; and `housetable`, which prints a table and reads nothing. Their paths are in
+//! SHEETREAD, TRIALREAD and HOUSETABLE, or `../target/bin/` and the name.
 
 use sheet_tests::cases::plan_t;
-use sheet_tests::damage::damaged;
+use sheet_tests::damage::{damaged, set_unused_of_sheet};
 use sheet_tests::house;
 use sheet_tests::line::{line, INPUT_LIMIT};
-use sheet_tests::make::{accepted, burst_sizes, powers_3x3, CellOrder};
+use sheet_tests::make::{accepted, accepted_of, burst_sizes, powers_3x3, CellOrder};
 use sheet_tests::model;
+use sheet_tests::pairs::hopeless;
 use sheet_tests::plan::{field, set_header_field, Plan};
 use sheet_tests::rng::Rng;
-use sheet_tests::scans::{random_burst, random_data, random_sheet, turned};
+use sheet_tests::scans::{burst, random_burst, random_data, random_sheet, turned};
+use sheet_tests::trials::{trial_cases, AT_THE_MOST, OF_4X4, ONE_CELL_MORE};
 use std::env;
 use std::fs::File;
 use std::io::{pipe, ErrorKind, PipeReader, PipeWriter, Read, Seek, Write};
@@ -20,17 +22,17 @@ use std::process::{Command, ExitStatus, Stdio};
 use std::thread;
 use std::time::{Duration, Instant};
 
-fn program() -> Command {
-    Command::new(env::var("SHEETREAD").unwrap_or_else(|_| "../target/bin/sheetread".into()))
-}
+/// The programs that read a sheet. They take and print the same: all that is tested of one is tested of both.
+const READERS: [&str; 2] = ["sheetread", "trialread"];
 
-fn housetable() -> Command {
-    Command::new(env::var("HOUSETABLE").unwrap_or_else(|_| "../target/bin/housetable".into()))
+fn program(name: &str) -> Command {
+    let told = env::var(name.to_uppercase());
+    Command::new(told.unwrap_or_else(|_| format!("../target/bin/{name}")))
 }
 
 /// What the program prints for an input that is handed over in pieces, with a pause between them.
-fn printed_in_pieces(pieces: &[&[u8]], pause: Duration) -> String {
-    let mut child = program()
+fn printed_in_pieces(name: &str, pieces: &[&[u8]], pause: Duration) -> String {
+    let mut child = program(name)
         .stdin(Stdio::piped())
         .stdout(Stdio::piped())
         .spawn()
@@ -51,11 +53,14 @@ fn printed_in_pieces(pieces: &[&[u8]], pause: Duration) -> String {
     out
 }
 
-/// The program prints the model's line, and nothing else.
+/// Each program prints the model's line, and nothing else.
 fn compare(input: &[u8]) -> String {
-    let out = printed_in_pieces(&[input], Duration::ZERO);
-    assert_eq!(out, line(input) + "\n");
-    out
+    let expected = line(input) + "\n";
+    for name in READERS {
+        let out = printed_in_pieces(name, &[input], Duration::ZERO);
+        assert_eq!(out, expected, "{name} on the left, model on the right");
+    }
+    expected
 }
 
 /// A plan and a sheet behind it.
@@ -108,12 +113,16 @@ fn past_the_limit() {
 /// (docs/FORMAT.md).
 #[test]
 fn input_and_output_that_fail() {
-    let folder = File::open(".").expect("a folder can be opened");
-    let ended = program().stdin(folder).output().expect("the program runs");
-    assert_eq!((ended.stdout.as_slice(), ended.status.code()), (b"no 1 0 0\n".as_slice(), Some(0)));
-    let full = File::options().write(true).open("/dev/full").expect("Linux has it");
-    let ended = program().stdin(Stdio::null()).stdout(full).output().expect("the program runs");
-    assert_eq!((ended.stderr.len(), ended.status.code()), (0, Some(0)));
+    for name in READERS {
+        let folder = File::open(".").expect("a folder can be opened");
+        let ended = program(name).stdin(folder).output().expect("the program runs");
+        let told = (ended.stdout.as_slice(), ended.status.code());
+        assert_eq!(told, (b"no 1 0 0\n".as_slice(), Some(0)), "{name}");
+        let full = File::options().write(true).open("/dev/full").expect("Linux has it");
+        let ended = program(name).stdin(Stdio::null()).stdout(full).output();
+        let ended = ended.expect("the program runs");
+        assert_eq!((ended.stderr.len(), ended.status.code()), (0, Some(0)), "{name}");
+    }
 }
 
 #[test]
@@ -121,7 +130,10 @@ fn slow_pipe() {
     let mut rng = Rng::new(72);
     let input = blotted(&accepted(&mut rng, 2, 3, 9), &mut rng);
     let pieces: Vec<&[u8]> = input.chunks(input.len() / 7 + 1).collect();
-    assert_eq!(printed_in_pieces(&pieces, Duration::from_millis(20)), line(&input) + "\n");
+    for name in READERS {
+        let out = printed_in_pieces(name, &pieces, Duration::from_millis(20));
+        assert_eq!(out, line(&input) + "\n", "{name}");
+    }
 }
 
 #[test]
@@ -150,13 +162,69 @@ fn hundreds_of_inputs() {
     assert!(taken >= 150 && refused >= 150);
 }
 
+/// What is worked out by hand of small sheets, as it is printed: the five numbers and the data, or 14.
+#[test]
+fn worked_sheets() {
+    for (plan, sheet, read) in trial_cases() {
+        let out = compare(&joined(&plan.encode(), &sheet));
+        let expected = read.map_or("no 14 0 0\n".to_string(), |(numbers, _, data)| {
+            let numbers = numbers.map(|number| number.to_string()).join(" ");
+            let digits: String = data.iter().map(|byte| format!("{byte:02x}")).collect();
+            format!("{}\n", format!("ok {numbers} {digits}").trim_end())
+        });
+        assert_eq!(out, expected);
+    }
+}
+
+/// Plans of 64 cells, under which `trialread` tries, and of 65, under which it does not: as written, with full bursts
+/// in the first rectangle and in the last, with a random burst, with a sheet that no burst mends, with an unused bit
+/// where there are any, with a byte more and one less; and damaged plans of these sizes.
+#[test]
+fn at_64_and_65_cells() {
+    let mut rng = Rng::new(75);
+    let (mut taken, mut refused) = (0, Vec::new());
+    for size in [&AT_THE_MOST[..], &ONE_CELL_MORE, &OF_4X4].concat() {
+        let plan = accepted_of(&mut rng, size);
+        let (bytes, data) = (plan.encode(), random_data(&plan, &mut rng));
+        let sheet = model::write_sheet(&plan, &data);
+        let digits: String = data.iter().map(|byte| format!("{byte:02x}")).collect();
+        let last = (plan.n1 - plan.b1, plan.n2 - plan.b2);
+        let full = [(0, 0), last].map(|(top, left)| burst(&plan, top, left, u32::MAX));
+        for cells in full.into_iter().chain([vec![], random_burst(&plan, &mut rng)]) {
+            let out = compare(&joined(&bytes, &turned(&plan, &sheet, &cells)));
+            let numbers = model::smallest_rectangle(&cells).mended().map(|n| n.to_string());
+            assert_eq!(out.trim_end(), format!("ok {} {digits}", numbers.join(" ")).trim_end());
+            taken += 1;
+        }
+        let lost = hopeless(&plan, &mut rng).expect("not every sheet can be mended");
+        let mut spoilt = lost.clone();
+        set_unused_of_sheet(&plan, &mut spoilt, &mut rng);
+        let longer = joined(&sheet, &[0]);
+        for scan in [&lost, &spoilt, &longer, &sheet[1..].to_vec()] {
+            refused.push(compare(&joined(&bytes, scan)));
+        }
+        for _ in 0..4 {
+            refused.push(compare(&joined(&damaged(&plan, &mut rng), &sheet)));
+        }
+    }
+    let met = |number: usize| {
+        let start = format!("no {number} ");
+        refused.iter().filter(|out| out.starts_with(&start)).count()
+    };
+    println!("{taken} sheets of 64 and 65 cells; refused: {:?}", [11, 13, 14].map(met));
+    assert_eq!(taken, 24 * 4);
+    assert!(
+        met(11) >= 48 && met(13) >= 10 && met(14) >= 24 && (1..=10).map(met).sum::<usize>() >= 60
+    );
+}
+
 /// The table of the model, which is the stored one, and nothing else. The program leaves its input
 /// alone: what is read of a file moves on in it.
 #[test]
 fn housetable_prints_the_table() {
     let mut input = File::open("Cargo.toml").expect("the tests run in their package");
     let there = input.try_clone().expect("a second handle");
-    let ended = housetable().stdin(there).output().expect("the program is built");
+    let ended = program("housetable").stdin(there).output().expect("the program is built");
     assert!(ended.status.success() && ended.stderr.is_empty(), "{ended:?}");
     assert!(ended.stdout == house::printed().into_bytes(), "another table is printed");
     assert!(ended.stdout == house::stored().into_bytes(), "another table is stored");
@@ -165,7 +233,7 @@ fn housetable_prints_the_table() {
 
 /// How housetable ends, within ten seconds, with its output to this end of a pipe or file.
 fn housetable_into(output: impl Into<Stdio>) -> ExitStatus {
-    let mut child = housetable().stdout(output).spawn().expect("the program is built");
+    let mut child = program("housetable").stdout(output).spawn().expect("the program is built");
     let began = Instant::now();
     loop {
         if let Some(status) = child.try_wait().expect("a child can be asked") {

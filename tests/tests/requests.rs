@@ -1,5 +1,5 @@
-//! The model of 02's requests e to i tested by itself: sums of runs, alterations, two scans, stacks, sheets by columns.
-//! Nothing here calls the library (`cargo test --no-default-features --test requests`).
+//! The model of 02's requests e to j tested by itself: sums of runs, alterations, two scans, stacks, sheets by columns,
+//! reading by trial. Nothing here calls the library (`cargo test --no-default-features --test requests`).
 
 use std::collections::BTreeSet;
 
@@ -8,6 +8,7 @@ use sheet_tests::cases::{
     alter_cases, column_cases, column_read_cases, plan_s, plan_t, plan_tall, plan_two_rows,
     run_cases, stack_cases, two_cases,
 };
+use sheet_tests::kinds::{sheet_of, KINDS};
 use sheet_tests::make::{accepted, burst_sizes, least_1x1, no_data, CellOrder};
 use sheet_tests::model::{self, Cell, Layout};
 use sheet_tests::pairs::row_places;
@@ -17,6 +18,8 @@ use sheet_tests::rng::Rng;
 use sheet_tests::runs::{joined, random_end, whole};
 use sheet_tests::scans::{every_sheet, random_sheet, turned};
 use sheet_tests::stacks::{bad_stacks, random_rooms, random_sheets, stack_of, Lent};
+use sheet_tests::tally::Tally;
+use sheet_tests::trials::{small, trial_cases};
 
 /// Sums of runs worked out by hand. The plan that is not of 01 is accepted.
 #[test]
@@ -314,4 +317,54 @@ fn along_the_columns() {
             }
         }
     }
+}
+
+/// Sheets worked out by hand, read by trial.
+#[test]
+fn worked_trials() {
+    for (plan, before, expected) in trial_cases() {
+        let (mut sheet, mut data) = (before.clone(), vec![0xaa; plan.data_len()]);
+        let answer = model::read_by_trial(&plan.encode(), &mut sheet, &mut data);
+        match expected {
+            Some((numbers, mended, text)) => {
+                assert_eq!((answer.places(), answer.mended()), ((0, 0, 0), numbers));
+                assert_eq!((sheet, data), (mended, text));
+            }
+            None => assert_eq!((answer, sheet), (Answer::refusal(14, 0, 0), before)),
+        }
+    }
+}
+
+/// 02 j): the trial gives the usual reader's answers and bytes, and finds the same cells as the trial that knows how
+/// sums change: for all sheets of the smallest plans, and for sheets of every kind under others.
+#[test]
+fn tried_as_read() {
+    let mut rng = Rng::new(26);
+    let mut sheets: Vec<_> = [plan_s(), plan_t(), plan_two_rows(), no_data()]
+        .into_iter()
+        .map(|plan| (plan.clone(), every_sheet(&plan).collect::<Vec<_>>()))
+        .collect();
+    for (b1, b2) in burst_sizes().filter(|(b1, b2)| b1 * b2 <= 9) {
+        for _ in 0..4 {
+            let plan = small(&mut rng, b1, b2);
+            let of_each_kind = KINDS.map(|kind| sheet_of(&plan, kind, &mut rng)).to_vec();
+            sheets.push((plan, of_each_kind));
+        }
+    }
+    let mut tally = Tally::default();
+    for (plan, sheet) in sheets.iter().flat_map(|(plan, of)| of.iter().map(move |one| (plan, one)))
+    {
+        let [mut tried, mut read] = [(); 2].map(|()| [sheet.clone(), vec![0xaa; plan.data_len()]]);
+        let [left, data] = &mut tried;
+        let answer = model::read_by_trial_accepted(plan, left, data);
+        let [left, data] = &mut read;
+        assert_eq!(answer, model::read_accepted(plan, left, data));
+        assert_eq!(tried, read);
+        assert!(
+            answer.number == 13
+                || model::burst_tried(plan, sheet) == model::burst_by_trial(plan, sheet)
+        );
+        tally.count(answer.pack());
+    }
+    tally.require("the model's trial", &[(0..=0, 450), (13..=13, 40), (14..=14, 450)]);
 }

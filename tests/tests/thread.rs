@@ -5,7 +5,7 @@ use std::thread;
 use sheet_tests::answer::Answer;
 use sheet_tests::ffi::{
     alter, first_difference, house_plan, plan_make, read_stack, read_two, sums, turn, Archive,
-    SHEET,
+    BY_TRIAL, SHEET,
 };
 use sheet_tests::given::{Given, HOUSE};
 use sheet_tests::header::constant;
@@ -121,6 +121,32 @@ fn stack_of_writing_and_reading() {
 #[test]
 fn stack_of_writing_and_reading_by_column() {
     writes_and_reads(Layout::Columns, constant("SHEET_BY_COLUMN_STACK"), &mut Rng::new(8));
+}
+
+/// Reading by trial. The scan has a full burst in the first rectangle, whose last pattern that is: to try them all
+/// takes long at full size, but for bursts of one cell, where a sheet that no burst mends has it done.
+#[test]
+fn stack_of_reading_by_trial() {
+    let enough = constant("SHEET_WRITE_READ_STACK");
+    let mut rng = Rng::new(10);
+    for plan in large_plans(&mut rng) {
+        let written = model::write_sheet(&plan, &random_data(&plan, &mut rng));
+        let mut scans = vec![(turned(&plan, &written, &burst(&plan, 0, 0, u32::MAX)), 0)];
+        if plan.b1 == 1 {
+            scans.push((hopeless(&plan, &mut rng).expect("not every sheet can be mended"), 14));
+        }
+        for (mut scan, number) in scans {
+            let (bytes, mut data) = (plan.encode(), vec![0xff; plan.data_len()]);
+            let (mut expected, mut text) = (scan.clone(), data.clone());
+            let told = model::read_accepted(&plan, &mut expected, &mut text);
+            assert_eq!(told.number, number);
+            let (answer, scan, data) = with_stack(enough, move || {
+                (BY_TRIAL.read(&bytes, &mut scan, &mut data), scan, data)
+            });
+            assert_eq!(Answer::unpack(answer), told);
+            assert!(scan == expected && data == text, "{number}");
+        }
+    }
 }
 
 /// The dark sheet turned either way, and one with an unused bit in its last line, if there is one. With 511 rows both

@@ -11,6 +11,7 @@ use sheet_tests::runs::random_run;
 use sheet_tests::scans::{random_burst, random_data, random_sheet, turned};
 use sheet_tests::stacks::{bad_stacks, random_rooms, told_of, Lent};
 use sheet_tests::tally::Tally;
+use sheet_tests::trials::small;
 use sheet_tests::yardstick;
 
 /// The plan test, writing and reading give the model's answers.
@@ -241,4 +242,32 @@ fn yardstick_of_columns_agrees() {
     writes.require("plain writing by columns", &[(0..=0, 1000), (11..=13, 100)]);
     reads.require("plain reading by columns", &[(0..=0, 1000), (11..=14, 100)]);
     turns.require("plain turning", &[(0..=0, 1000), (11..=11, 100), (13..=13, 100)]);
+}
+
+/// So does reading by trial: good and damaged plans, sheets of every kind, buffers of right and wrong lengths.
+#[test]
+fn yardstick_of_the_trial_agrees() {
+    let mut rng = Rng::new(27);
+    let mut tally = Tally::default();
+    for (b1, b2) in burst_sizes().filter(|(b1, b2)| b1 * b2 <= 9) {
+        for _ in 0..16 {
+            let plan = small(&mut rng, b1, b2);
+            for _ in 0..16 {
+                let bytes = if rng.one_in(6) { damaged(&plan, &mut rng) } else { plan.encode() };
+                let mut sheet = sheet_in(Layout::Rows, &plan, rng.pick(&KINDS), &mut rng);
+                let mut data = rng.bytes(plan.data_len());
+                for buffer in [&mut sheet, &mut data] {
+                    if rng.one_in(10) {
+                        alter_length(buffer, &mut rng);
+                    }
+                }
+                let (mut expected, mut text) = (sheet.clone(), data.clone());
+                let answer = model::read_by_trial(&bytes, &mut expected, &mut text).pack();
+                let plain = yardstick::plain_read_by_trial(&bytes, &mut sheet, &mut data);
+                assert_eq!((plain, sheet, data), (answer, expected, text));
+                tally.count(plain);
+            }
+        }
+    }
+    tally.require("plain reading by trial", &[(0..=0, 800), (11..=14, 100)]);
 }

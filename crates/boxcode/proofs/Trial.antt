@@ -2,6 +2,7 @@
 --
 --   boxNumber                the pattern number of a set of cells in a rectangle
 --   box-inside, box-number   a pattern number gives cells inside its rectangle, and every set inside one has a number
+--   trial-rows, trial-columns   the rectangle of a trial lies on the sheet
 --   trial-burst, burst-trial   every trial is a burst, and every burst is a trial
 --   BurstWith                a burst with two given sums
 --   found                    where hasBurst holds, burstFor is such a burst
@@ -20,7 +21,8 @@ use borrow.Author.Tests.{ltb-true, lt-ltb}
 use Rattle.finite.specs.Search.{bit, within, least, numberOf}
 use Rattle.boxcode.specs.Code.{Code, Formed}
 use Rattle.boxcode.specs.Syndrome.{Cells, rowSyndrome, columnSyndrome, SameCells}
-use Rattle.boxcode.specs.Burst.{Inside, Burst, boxCells, patterns, lefts, trials, trialCells, tried, hasBurst, burstFor}
+use Rattle.boxcode.specs.Burst.{Inside, Burst, boxCells, patterns, lefts, trials, trialTop, trialLeft, trialPattern, trialCells}
+use Rattle.boxcode.specs.Burst.{tried, hasBurst, burstFor}
 use Rattle.finite.proofs.Truth.{both-equal, equal-both, same-truth, and-left, and-right, and-both, within-from, within-to, in-within}
 use Rattle.finite.proofs.Search.{least-found, least-most}
 use Rattle.finite.proofs.Digits.{number-below, bit-number}
@@ -91,21 +93,28 @@ module _ (c : Code) (F : Formed c) where
   unfolding lefts
   lefts-pos = omega arith
 
-  pub trial-burst : (t : ℕ) → t < trials c → Burst c (trialCells c t)
-  unfolding trials trialCells
-  trial-burst t l = record {
-    top = t / patterns c / lefts c;
-    left = t / patterns c % lefts c;
-    rows-on =
-        let u : t / patterns c / lefts c < c .n1 - c .b1 + 1 = div-lt-iff-lt-mul lefts-pos .1 (div-lt-iff-lt-mul patterns-pos .1 l) in
-        let f : c .b1 ≤ c .n1 = F .n1-least in
-        omega arith;
-    columns-on = left-on (mod-lt (t / patterns c) lefts-pos);
-    inside = box-inside (t / patterns c / lefts c) (t / patterns c % lefts c) (c .b1) (c .b2) (t % patterns c);
-  }
+  pub trial-rows : (t : ℕ) → t < trials c → trialTop c t + c .b1 ≤ c .n1
+  unfolding trials
+  trial-rows t l =
+      let u : t / patterns c / lefts c < c .n1 - c .b1 + 1 = div-lt-iff-lt-mul lefts-pos .1 (div-lt-iff-lt-mul patterns-pos .1 l) in
+      let f : c .b1 ≤ c .n1 = F .n1-least in
+      omega arith
+
+  pub trial-columns : (t : ℕ) → trialLeft c t + c .b2 ≤ c .n2
+  trial-columns t = left-on (mod-lt (t / patterns c) lefts-pos)
     where
       left-on : {a : ℕ} → a < lefts c → a + c .b2 ≤ c .n2
       left-on h = let f : c .b2 ≤ c .n2 = F .n2-least in unfold lefts in omega arith
+
+  pub trial-burst : (t : ℕ) → t < trials c → Burst c (trialCells c t)
+  unfolding trialCells
+  trial-burst t l = record {
+    top = trialTop c t;
+    left = trialLeft c t;
+    rows-on = trial-rows t l;
+    columns-on = trial-columns t;
+    inside = box-inside (trialTop c t) (trialLeft c t) (c .b1) (c .b2) (trialPattern c t);
+  }
 
   pub burst-trial : (e : Cells) → Burst c e → (t : ℕ) × (t < trials c) × ((i j : ℕ) → trialCells c t i j ≡ e i j)
   unfolding trials trialCells

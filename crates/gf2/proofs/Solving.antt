@@ -3,6 +3,7 @@
 --   solver-for         for at most 64 free vectors below 2 ^ 64, the solver's words are a basis, and its combinations make them
 --   solver-solves      then `solved` with these words and combinations is `solution`
 --   solution-found     the solution of a spanned target makes the target, and is below 2 ^ the number of vectors
+--   zeros-at           every word of an array of zeros is 0
 --
 -- Assumes nothing.
 use mathlib.Core.Path.{_≡_, refl, sym, ap, _∙_}
@@ -40,7 +41,7 @@ pub record SolverFor (vs b c : List ℕ) : Type 0 where
   pub makes : Makes vs b c
   pub small : (k : ℕ) → getD c k 0 < 2 ^ length vs
 
-zeros-at : (n k : ℕ) → _≡_ {A = ℕ} (getD (replicate n 0) k 0) 0
+pub zeros-at : (n k : ℕ) → _≡_ {A = ℕ} (getD (replicate n 0) k 0) 0
 zeros-at zero k = refl
 zeros-at (suc n) zero = refl
 zeros-at (suc n) (suc k) = zeros-at n k

@@ -1,3 +1,4 @@
+pub mod choice;
 pub mod parts;
 pub mod print;
 pub mod whole;

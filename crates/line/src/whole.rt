@@ -14,6 +14,7 @@ use crate::print::put_ok;
 use layout::cells::clear;
 use layout::stored::Layout;
 use reader::read::read;
+use reader::search::Search;
 
 // Room for the longest line.
 pub fn line_buffer() -> [u8; 89472]
@@ -23,12 +24,12 @@ pub fn line_buffer() -> [u8; 89472]
 }
 
 // The read of one sheet, and its line.
-fn read_line(plan: &[u8], sheet: &mut [u8], bits: &mut [u8], out: &mut [u8]) -> usize
+fn read_line(by: Search, plan: &[u8], sheet: &mut [u8], bits: &mut [u8], out: &mut [u8]) -> usize
     requires { ⌜ 128 + 2 * length (now bits) ≤ length (now out) ⌝ }
     ensures { λ r. ⌜ Put (now (out .entry)) 0 (lineFrom (readOutcome (now (plan .entry)) (now (sheet .entry)) (now (bits .entry)))) (now (out .exit)) r ⌝ }
     ensures { λ r. ⌜ r ≤ length (now (out .entry)) ⌝ }
 {
-    let answer = read(Layout::ByRow, plan, sheet, bits);
+    let answer = read(by, Layout::ByRow, plan, sheet, bits);
     let verdict = answer.verdict;
     if verdict.number != 0 {
         return put_no(out, verdict);
@@ -36,8 +37,8 @@ fn read_line(plan: &[u8], sheet: &mut [u8], bits: &mut [u8], out: &mut [u8]) -> 
     put_ok(out, answer.report, bits)
 }
 
-// The line, at the start of out. The sheet is read in a copy, so that the input stays as it is.
-pub fn line(input: &[u8], sheet: &mut [u8], bits: &mut [u8], out: &mut [u8]) -> usize
+// The line, at the start of out, the same whichever way the burst is searched for. The sheet is read in a copy, so that the input stays as it is.
+pub fn line(by: Search, input: &[u8], sheet: &mut [u8], bits: &mut [u8], out: &mut [u8]) -> usize
     requires { ⌜ Room (now input) (now sheet) (now bits) (now out) ⌝ }
     ensures { λ r. ⌜ Printed (lineOf (now (input .entry))) (now (out .exit)) r ⌝ }
 {
@@ -46,5 +47,5 @@ pub fn line(input: &[u8], sheet: &mut [u8], bits: &mut [u8], out: &mut [u8]) -> 
     let m = copy(&input[n..], sheet);
     let k = data_bytes(plan);
     clear(bits);
-    read_line(plan, &mut sheet[..m], &mut bits[..k], out)
+    read_line(by, plan, &mut sheet[..m], &mut bits[..k], out)
 }

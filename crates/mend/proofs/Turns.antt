@@ -4,6 +4,7 @@
 --   times-next            one multiple more
 --   mod-start, mod-next   remainders counted up from that of a number
 --   sum-start, sum-more   one summand more, as the code's exclusive-or has it
+--   entry-stored          one entry more of a table in the first words of an array
 --   digitsFrom, digits-start, -more, -all, -below, number-equal   a number by its digits, from the highest on
 --   first-found, past-here, past-before   lines tried in turn, from the first on and from the last back
 --   small-burst, box-size   the sizes of a burst: at most 16 places
@@ -11,13 +12,17 @@
 -- Assumes nothing.
 use mathlib.Core.Path.{_≡_, refl, sym, ap, ap₂, _∙_}
 use mathlib.Core.Bool.{Bool, true, false, cond}
+use mathlib.Core.List.{List}
 use Prim.Native.Nat.{ℕ, zero, suc, _+_, _-_, _*_, _/_, _%_, _^_, _≤_, _<_}
 use native.Mathlib.Nat.{mod-lt, mod-add-mod, suc-mul, mul-le-mul, zero-lt-suc}
+use native.Mathlib.Decide.{ℕ-discrete}
 use native.Mathlib.Numerals.{add-one}
 use native.Mathlib.Omega.{arith}
 use lib.Bits.{bitXor}
 use lib.Dec.{eqb}
+use lib.ListN.{length, getD, set, length-set}
 use lib.Pow.{pow-mono}
+use lib.Seq.{getD-set-same, getD-set-other}
 use Rattle.gf2.specs.Xor.{_⊕_}
 use Rattle.gf2.specs.Sum.{xorSum}
 use Rattle.gf2.proofs.Xor.{xor-is}
@@ -72,6 +77,16 @@ sum-start f = sym (sum-none f)
 
 pub sum-more : (n : ℕ) (f : ℕ → ℕ) (s v : ℕ) → s ≡ xorSum n f → v ≡ f n → bitXor s v ≡ xorSum (n + 1) f
 sum-more n f s v e g = xor-is s v ∙ ap₂ _⊕_ e g ∙ sym (ap (λ (m : ℕ). xorSum m f) (add-one n) ∙ sum-next n f)
+
+-- ---- tables
+
+pub entry-stored : (f : ℕ → ℕ) (words : List ℕ) (k x : ℕ) → k < 16 → length words ≡ 16 → ((j : ℕ) → j < k → getD words j 0 ≡ f j) → x ≡ f k
+    → (length (set words k x) ≡ 16) × ((j : ℕ) → j < k + 1 → getD (set words k x) j 0 ≡ f j)
+entry-stored f words k x l n h e = (length-set words k x ∙ n, λ j lj. at j lj (ℕ-discrete j k))
+  where
+    at : (j : ℕ) → j < k + 1 → Dec (j ≡ k) → getD (set words k x) j 0 ≡ f j
+    at j lj (yes q) = rw q (getD-set-same words k x 0 (omega arith) ∙ e)
+    at j lj (no q) = getD-set-other words k j x 0 q ∙ h j (omega arith)
 
 -- ---- numbers by digits
 

@@ -3,6 +3,7 @@ pub mod Corrupted
 pub mod Reading
 pub mod Promise
 pub mod Layouts
+pub mod Trial
 pub mod Answer
 pub mod House
 pub mod Sums

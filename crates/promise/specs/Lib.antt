@@ -1,6 +1,7 @@
 -- What the calls promise together.
 pub mod Promise
 pub mod Layouts
+pub mod Trial
 pub mod Answer
 pub mod House
 pub mod Sums

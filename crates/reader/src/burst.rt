@@ -12,6 +12,7 @@ ghost use Rattle.plan.specs.Accepted.{AcceptedWith};
 ghost use Rattle.mend.specs.Found.{FoundFor, IsBurst};
 ghost use Rattle.reader.specs.Read.{outcome, taken, bitsRead};
 use crate::answer::Answer;
+use crate::search::Search;
 use crate::turn::turn_box;
 use layout::stored::Layout;
 use mend::find::find;
@@ -22,9 +23,17 @@ use payload::transfer::take;
 use plan::header::Header;
 use plan::verdict::accept;
 use syndrome::whole::sheet_sums;
+use trial::sheet::try_all;
 
 // The burst with the two sums of a sheet, under an accepted plan.
-pub fn find_burst(lay: Layout, plan: &[u8], h: Header, columns: &[u64], sheet: &[u8]) -> Found
+pub fn find_burst(
+    by: Search,
+    lay: Layout,
+    plan: &[u8],
+    h: Header,
+    columns: &[u64],
+    sheet: &[u8],
+) -> Found
     requires { ⌜ AcceptedWith (now plan) h ⌝ }
     requires { ⌜ Unpacked (now plan) h (now columns) ⌝ }
     requires { ⌜ length (now sheet) ≡ sizeIn lay (h .n1) (h .n2) ⌝ }
@@ -32,7 +41,10 @@ pub fn find_burst(lay: Layout, plan: &[u8], h: Header, columns: &[u64], sheet: &
         FoundFor c (rowSyndrome c s) (columnSyndrome c s) r) ⌝ }
 {
     let s = sheet_sums(lay, sheet, plan, h, columns);
-    find(plan, h, columns, s.row, s.column)
+    match by {
+        Search::ByWindow => find(plan, h, columns, s.row, s.column),
+        Search::ByTrial => try_all(plan, h, s.row, s.column),
+    }
 }
 
 // Turns that burst over, takes the data of the mended sheet, and reports.

@@ -2,4 +2,5 @@
 pub mod answer;
 pub mod burst;
 pub mod read;
+pub mod search;
 pub mod turn;

@@ -12,6 +12,7 @@ use crate::answer::Answer;
 use crate::answer::refused_as;
 use crate::burst::apply_burst;
 use crate::burst::find_burst;
+use crate::search::Search;
 use buffers::call::length_checks;
 use buffers::lent::sheet_unused;
 use layout::stored::Layout;
@@ -22,6 +23,7 @@ use plan::verdict::refuse;
 
 // Check 14, and the mend: only a burst that was found goes on to what writes.
 pub fn mend_sheet(
+    by: Search,
     lay: Layout,
     plan: &[u8],
     h: Header,
@@ -36,7 +38,7 @@ pub fn mend_sheet(
     ensures { λ r. ⌜ outcome r (now (sheet .exit)) (now (bits .exit))
         ≡ mendOutcome lay (codeWith (now (plan .entry)) h) (now (sheet .entry)) (now (bits .entry)) ⌝ }
 {
-    let Found::Burst(top, left, x) = find_burst(lay, plan, h, columns, sheet) else {
+    let Found::Burst(top, left, x) = find_burst(by, lay, plan, h, columns, sheet) else {
         return refused_as(refuse(14, 0, 0));
     };
     apply_burst(lay, plan, h, sheet, bits, top, left, x)
@@ -44,6 +46,7 @@ pub fn mend_sheet(
 
 // Checks 13 and 14, and the mend, where the plan is accepted and both buffers have the right lengths. A refusal changes no byte of either.
 pub fn read_lent(
+    by: Search,
     lay: Layout,
     plan: &[u8],
     h: Header,
@@ -61,11 +64,11 @@ pub fn read_lent(
     if unused.number != 0 {
         return refused_as(unused);
     }
-    mend_sheet(lay, plan, h, columns, sheet, bits)
+    mend_sheet(by, lay, plan, h, columns, sheet, bits)
 }
 
 // Checks 1 to 14, and the mend. A refusal changes no byte of either buffer.
-pub fn read(lay: Layout, plan: &[u8], sheet: &mut [u8], bits: &mut [u8]) -> Answer
+pub fn read(by: Search, lay: Layout, plan: &[u8], sheet: &mut [u8], bits: &mut [u8]) -> Answer
     ensures { λ r. ⌜ outcome r (now (sheet .exit)) (now (bits .exit)) ≡ readIn lay (now (plan .entry)) (now (sheet .entry)) (now (bits .entry)) ⌝ }
 {
     let mut columns = [0u64; 2792];
@@ -73,5 +76,5 @@ pub fn read(lay: Layout, plan: &[u8], sheet: &mut [u8], bits: &mut [u8]) -> Answ
     if checked.number != 0 {
         return refused_as(checked);
     }
-    read_lent(lay, plan, header_of(plan), &columns, sheet, bits)
+    read_lent(by, lay, plan, header_of(plan), &columns, sheet, bits)
 }

@@ -22,6 +22,7 @@ use plan::verdict::accept;
 use plan::verdict::refuse;
 use reader::burst::find_burst;
 use reader::burst::take_mended;
+use reader::search::Search;
 
 // Check 19, and the data, where both scans can be mended. Data agree exactly if the mended sheets do, so these are compared, and the data
 // buffer is written only where they agree.
@@ -64,7 +65,14 @@ fn read_alone(plan: &[u8], h: Header, columns: &[u64], scan: &[u8], bits: &mut [
     requires { ⌜ length (now bits) ≡ rowBytes (dataSize (codeWith (now plan) h)) ⌝ }
     ensures { λ r. ⌜ twoRead r (now (bits .exit)) ≡ alone (mendOutcome ByRow (codeWith (now (plan .entry)) h) (now (scan .entry)) (now (bits .entry))) ⌝ }
 {
-    let Found::Burst(top, left, x) = find_burst(Layout::ByRow, plan, h, columns, scan) else {
+    let Found::Burst(top, left, x) = find_burst(
+        Search::ByWindow,
+        Layout::ByRow,
+        plan,
+        h,
+        columns,
+        scan,
+    ) else {
         return refuse(14, 0, 0);
     };
     take_mended(plan, h, scan, bits, top, left, x);
@@ -88,10 +96,24 @@ fn read_scans(
     ensures { λ r. ⌜ (let c = codeWith (now (plan .entry)) h in let old = now (bits .entry) in twoRead r (now (bits .exit))
         ≡ decide (mendOutcome ByRow c (now (first .entry)) old) (mendOutcome ByRow c (now (second .entry)) old) old) ⌝ }
 {
-    let Found::Burst(top, left, x) = find_burst(Layout::ByRow, plan, h, columns, first) else {
+    let Found::Burst(top, left, x) = find_burst(
+        Search::ByWindow,
+        Layout::ByRow,
+        plan,
+        h,
+        columns,
+        first,
+    ) else {
         return read_alone(plan, h, columns, second, bits);
     };
-    let Found::Burst(top2, left2, x2) = find_burst(Layout::ByRow, plan, h, columns, second) else {
+    let Found::Burst(top2, left2, x2) = find_burst(
+        Search::ByWindow,
+        Layout::ByRow,
+        plan,
+        h,
+        columns,
+        second,
+    ) else {
         take_mended(plan, h, first, bits, top, left, x);
         return accept();
     };

@@ -19,6 +19,7 @@ use layout::stored::Layout;
 use maker::making::make;
 use maker::parameters::Parameters;
 use reader::read::read;
+use reader::search::Search;
 use runsums::sum_run;
 use scans::reading::read_two;
 use stack::reading::read_stack;
@@ -98,10 +99,10 @@ pub extern "C" fn sheet_write_by_column(plan: &[u8], bits: &[u8], sheet: &mut [u
 }
 
 // Reading in a layout, its answer packed.
-fn read_packed(lay: Layout, plan: &[u8], sheet: &mut [u8], bits: &mut [u8]) -> u64
+fn read_packed(by: Search, lay: Layout, plan: &[u8], sheet: &mut [u8], bits: &mut [u8]) -> u64
     ensures { λ r. ⌜ readReply r (now (sheet .exit)) (now (bits .exit)) ≡ readCall lay (now (plan .entry)) (now (sheet .entry)) (now (bits .entry)) ⌝ }
 {
-    let a = read(lay, plan, sheet, bits);
+    let a = read(by, lay, plan, sheet, bits);
     let v = a.verdict;
     let r = a.report;
     pack(Answer {
@@ -121,7 +122,7 @@ fn read_packed(lay: Layout, plan: &[u8], sheet: &mut [u8], bits: &mut [u8]) -> u
 pub extern "C" fn sheet_read(plan: &[u8], sheet: &mut [u8], bits: &mut [u8]) -> u64
     ensures { λ r. ⌜ readReply r (now (sheet .exit)) (now (bits .exit)) ≡ readCall ByRow (now (plan .entry)) (now (sheet .entry)) (now (bits .entry)) ⌝ }
 {
-    read_packed(Layout::ByRow, plan, sheet, bits)
+    read_packed(Search::ByWindow, Layout::ByRow, plan, sheet, bits)
 }
 
 // The same, with the sheet stored by columns.
@@ -130,7 +131,15 @@ pub extern "C" fn sheet_read_by_column(plan: &[u8], sheet: &mut [u8], bits: &mut
     ensures { λ r. ⌜ readReply r (now (sheet .exit)) (now (bits .exit))
         ≡ readCall ByColumn (now (plan .entry)) (now (sheet .entry)) (now (bits .entry)) ⌝ }
 {
-    read_packed(Layout::ByColumn, plan, sheet, bits)
+    read_packed(Search::ByWindow, Layout::ByColumn, plan, sheet, bits)
+}
+
+// The same as sheet_read, its burst searched for by trial: for small sheets.
+#[no_mangle]
+pub extern "C" fn sheet_read_by_trial(plan: &[u8], sheet: &mut [u8], bits: &mut [u8]) -> u64
+    ensures { λ r. ⌜ readReply r (now (sheet .exit)) (now (bits .exit)) ≡ readCall ByRow (now (plan .entry)) (now (sheet .entry)) (now (bits .entry)) ⌝ }
+{
+    read_packed(Search::ByTrial, Layout::ByRow, plan, sheet, bits)
 }
 
 // Turning a sheet of a layout into the other, its answer packed.

@@ -1,6 +1,7 @@
 // The program: a plan and a sheet on standard input, one line on standard output.
 use libc::STDIN_FILENO;
 use libc::STDOUT_FILENO;
+use reader::search::Search;
 
 // At most 65,536 bytes are read, in as many pieces as they come in.
 fn main() {
@@ -9,6 +10,12 @@ fn main() {
     let mut sheet = io::large_buffer();
     let mut bits = io::large_buffer();
     let mut out = line::whole::line_buffer();
-    let end = line::whole::line(&input[..n], &mut sheet, &mut bits, &mut out);
+    let end = line::whole::line(
+        Search::ByWindow,
+        &input[..n],
+        &mut sheet,
+        &mut bits,
+        &mut out,
+    );
     io::write_all(STDOUT_FILENO, &out[..end]);
 }

@@ -21,6 +21,7 @@ use plan::header::Header;
 use plan::verdict::Verdict;
 use reader::answer::Answer;
 use reader::read::read_lent;
+use reader::search::Search;
 use stackform::count_of;
 use stackform::place;
 
@@ -58,7 +59,15 @@ fn read_sheet(
     ensures { λ _. ⌜ lent (now (sheet .exit)) (now (numbers .exit)) (now (bits .exit))
         ≡ readLeft (readOutcome (now (plan .entry)) (now (sheet .entry)) (now (bits .entry))) ⌝ }
 {
-    let answer = read_lent(Layout::ByRow, plan, h, columns, sheet, bits);
+    let answer = read_lent(
+        Search::ByWindow,
+        Layout::ByRow,
+        plan,
+        h,
+        columns,
+        sheet,
+        bits,
+    );
     put_numbers(answer, numbers);
 }
 

@@ -4,6 +4,7 @@ use std::ops::Range;
 
 use super::{
     alter, first_difference, house_plan, plan_make, read_stack, read_two, sums, turn, Archive,
+    BY_TRIAL, SHEET,
 };
 use crate::answer::Answer;
 use crate::given::Given;
@@ -24,8 +25,8 @@ impl Library {
         Library { rng: Rng::new(seed) }
     }
 
-    fn archive(&mut self, layout: Layout) -> Archive {
-        let archive = Archive::of(layout);
+    /// The archive, with null for empty buffers or not.
+    fn archive(&mut self, archive: Archive) -> Archive {
         if self.rng.one_in(2) {
             archive.with_null()
         } else {
@@ -52,7 +53,7 @@ impl Library {
 
     pub fn plan_test(&mut self, plan: &[u8]) -> u64 {
         let plan = Guarded::new("plan", plan, &mut self.rng);
-        let answer = self.archive(Layout::Rows).plan_test(plan.content());
+        let answer = self.archive(SHEET).plan_test(plan.content());
         plan.assert_unchanged();
         answer
     }
@@ -66,7 +67,7 @@ impl Library {
         let plan = Guarded::new("plan", plan, &mut self.rng);
         let data = Guarded::new("data", data, &mut self.rng);
         let mut target = Guarded::new("sheet", sheet, &mut self.rng);
-        let archive = self.archive(layout);
+        let archive = self.archive(Archive::of(layout));
         let answer = archive.write(plan.content(), data.content(), target.content_mut());
         plan.assert_unchanged();
         data.assert_unchanged();
@@ -86,10 +87,18 @@ impl Library {
         sheet: &mut [u8],
         data: &mut [u8],
     ) -> u64 {
+        self.read_by(Archive::of(layout), plan, sheet, data)
+    }
+
+    pub fn read_by_trial(&mut self, plan: &[u8], sheet: &mut [u8], data: &mut [u8]) -> u64 {
+        self.read_by(BY_TRIAL, plan, sheet, data)
+    }
+
+    fn read_by(&mut self, archive: Archive, plan: &[u8], sheet: &mut [u8], data: &mut [u8]) -> u64 {
         let plan = Guarded::new("plan", plan, &mut self.rng);
         let mut scan = Guarded::new("sheet", sheet, &mut self.rng);
         let mut target = Guarded::new("data", data, &mut self.rng);
-        let archive = self.archive(layout);
+        let archive = self.archive(archive);
         let answer = archive.read(plan.content(), scan.content_mut(), target.content_mut());
         plan.assert_unchanged();
         scan.hand_back(answer, sheet);

@@ -66,6 +66,11 @@ archive! {
     BY_COLUMN: sheet_plan_test, sheet_write_by_column, sheet_read_by_column
 }
 
+archive! {
+    /// The archive under test, with sheets that are read by trial. That of an earlier commit may have no such call.
+    BY_TRIAL: sheet_plan_test, sheet_write, sheet_read_by_trial
+}
+
 #[cfg(feature = "before")]
 archive! {
     /// The archive of an earlier commit, whose symbols have been given other names.

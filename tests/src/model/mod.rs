@@ -1,4 +1,4 @@
-//! The fourteen calls, by the words of documents 01 and 02 (requests a and c to i) and with no eye to speed
+//! The fifteen calls, by the words of documents 01 and 02 (requests a and c to j) and with no eye to speed
 //! beyond what full-size sheets ask for.
 
 mod accept;
@@ -12,6 +12,7 @@ mod mend;
 mod run;
 mod sheet;
 mod stack;
+mod trial;
 mod two;
 
 pub use accept::{accept, accept_by, strip_members, test_plan, window_entries};
@@ -33,6 +34,7 @@ pub use sheet::{
     cell, cells, data_cells, data_of, syndrome, turn_over, unused_bits, write_sheet, Cell,
 };
 pub use stack::sheet_places;
+pub use trial::{burst_tried, read_by_trial, read_by_trial_accepted};
 pub use two::{data_of_two, differing_row, mended_data};
 
 use std::ops::Range;
@@ -91,7 +93,12 @@ pub fn read_accepted(plan: &Plan, sheet: &mut [u8], data: &mut [u8]) -> Answer {
     if let Err(refusal) = check_reading(Layout::Rows, plan, sheet, data) {
         return refusal;
     }
-    let Some(burst) = burst_by_search(plan, sheet) else {
+    read_with(plan, burst_by_search(plan, sheet), sheet, data)
+}
+
+/// Turn the burst over that was found and take the data out: the answer of a read. With none it is check 14.
+fn read_with(plan: &Plan, found: Option<Vec<Cell>>, sheet: &mut [u8], data: &mut [u8]) -> Answer {
+    let Some(burst) = found else {
         return Answer::refusal(14, 0, 0);
     };
     for &at in &burst {

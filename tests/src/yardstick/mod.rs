@@ -8,12 +8,14 @@ mod maker;
 mod plain;
 mod sheets;
 mod stack;
+mod trial;
 mod two;
 
 pub use alter::alter_accepted;
 pub use columns::{read_by_column_accepted, turn_accepted, write_by_column_accepted};
 pub use sheets::{read_accepted, sum_accepted, write_accepted};
 pub use stack::read_stack_accepted;
+pub use trial::read_by_trial_accepted;
 pub use two::{first_difference_accepted, read_two_accepted};
 
 use std::ops::Range;
@@ -90,6 +92,14 @@ pub fn plain_write_by_column(plan: &[u8], data: &[u8], sheet: &mut [u8]) -> u64 
 pub fn plain_read_by_column(plan: &[u8], sheet: &mut [u8], data: &mut [u8]) -> u64 {
     match accept_by(plan, plain::windows, plain::strips) {
         Ok(plan) => read_by_column_accepted(&plan, sheet, data).pack(),
+        Err(refusal) => refusal.pack(),
+    }
+}
+
+/// Reading a sheet by trial in plain Rust: the plain plan test, the checks of the buffers, and the trial.
+pub fn plain_read_by_trial(plan: &[u8], sheet: &mut [u8], data: &mut [u8]) -> u64 {
+    match accept_by(plan, plain::windows, plain::strips) {
+        Ok(plan) => read_by_trial_accepted(&plan, sheet, data).pack(),
         Err(refusal) => refusal.pack(),
     }
 }

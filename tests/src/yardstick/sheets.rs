@@ -34,7 +34,7 @@ pub(super) fn write_by(
 }
 
 /// The two sums of a sheet by rows.
-fn whole(plan: &Plan, sheet: &[u8]) -> Sums {
+pub(super) fn whole(plan: &Plan, sheet: &[u8]) -> Sums {
     sums(plan, sheet, 0..plan.n1)
 }
 
@@ -69,7 +69,19 @@ pub(super) fn read_by(
     place: impl Fn(Cell) -> (usize, usize),
     sums: impl Fn(&Plan, &[u8]) -> Sums,
 ) -> Answer {
-    let Some(burst) = burst(plan, sums(plan, sheet)) else {
+    let found = burst(plan, sums(plan, sheet));
+    mend_by(plan, sheet, data, place, found)
+}
+
+/// Turn over the burst that was found, in a sheet of which each cell has this byte and bit, and take the data out.
+pub(super) fn mend_by(
+    plan: &Plan,
+    sheet: &mut [u8],
+    data: &mut [u8],
+    place: impl Fn(Cell) -> (usize, usize),
+    found: Option<Vec<Cell>>,
+) -> Answer {
+    let Some(burst) = found else {
         return Answer::refusal(14, 0, 0);
     };
     for &at in &burst {

@@ -17,6 +17,7 @@ mod sheets;
 mod stack;
 mod subject;
 mod timing;
+mod trial;
 mod two;
 
 fn main() {
@@ -36,6 +37,7 @@ fn main() {
     stack::stacks();
     columns::columns();
     columns::turns();
+    trial::trials();
     #[cfg(feature = "before")]
     before::beside();
 }

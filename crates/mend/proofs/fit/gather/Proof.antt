@@ -1,26 +1,14 @@
 -- `mend::fit::gather` meets its contract. The invariant: the first k words are the first k entries of the window. Assumes nothing.
-use mathlib.Core.Path.{_≡_, refl, _∙_}
-use mathlib.Core.List.{List}
+use mathlib.Core.Path.{_≡_, refl}
 use Prim.Native.Nat.{ℕ, _+_, _-_, _*_, _≤_, _<_}
-use native.Mathlib.Decide.{ℕ-discrete}
 use native.Mathlib.Omega.{arith}
-use lib.ListN.{length, getD, set, length-set}
-use lib.Seq.{getD-set-same, getD-set-other}
+use lib.ListN.{length, getD}
 use Rattle.plan.specs.Bytes.{codeWith}
 use Rattle.mend.specs.Window.{entryAt}
-use Rattle.mend.proofs.Turns.{small-burst, box-size}
+use Rattle.mend.proofs.Turns.{entry-stored, small-burst, box-size}
 use Rattle.mend.proofs.Window.{rows-fit, gathered}
 use Rattle.mend.proofs.fit.gather.Statement.{statement}
 use Rattle.mend.proofs.fit.gather.Tie as tie
-
--- one entry more is stored
-one-more : (f : ℕ → ℕ) (words : List ℕ) (k x : ℕ) → k < 16 → length words ≡ 16 → ((j : ℕ) → j < k → getD words j 0 ≡ f j) → x ≡ f k
-    → (length (set words k x) ≡ 16) × ((j : ℕ) → j < k + 1 → getD (set words k x) j 0 ≡ f j)
-one-more f words k x l n h e = (length-set words k x ∙ n, λ j lj. at j lj (ℕ-discrete j k))
-  where
-    at : (j : ℕ) → j < k + 1 → Dec (j ≡ k) → getD (set words k x) j 0 ≡ f j
-    at j lj (yes q) = rw q (getD-set-same words k x 0 (omega arith) ∙ e)
-    at j lj (no q) = getD-set-other words k j x 0 q ∙ h j (omega arith)
 
 abbrev Inv-loop : tie.InvT-loop
 Inv-loop plan h i words₀ first size k₀ words k = (k ≤ size) × (length words ≡ 16) × ((j : ℕ) → j < k → getD words j 0 ≡ entryAt (codeWith plan h) i j)
@@ -69,7 +57,7 @@ loop-again c =
     let w = c .before .before .loop in
     let l = room a in
     let f = entryAt (codeWith (a .args .plan .now) (a .args .h)) (a .args .i) in
-    let m = one-more f (w .words) (w .k) _ (omega arith) (w .inv .1) (w .inv .2) (c .row-entry .ensures .value) in
+    let m = entry-stored f (w .words) (w .k) _ (omega arith) (w .inv .1) (w .inv .2) (c .row-entry .ensures .value) in
     (omega arith, m .0, m .1)
 
 returns : tie.Need-returns Inv-loop μ-loop

@@ -6,7 +6,9 @@ use Rattle.stack.proofs.reading.read_sheet.Statement.{statement}
 use Rattle.stack.proofs.reading.read_sheet.Tie as tie
 
 read-lent-requires : tie.Need-read-lent-requires
-read-lent-requires c κs = search needs
+read-lent-requires c κs =
+    let p = c .before .before .before .before .before .before .before .pre in
+    (p .0, (p .1 .0, (p .1 .1 .0, p .1 .1 .1 .1)))
 
 put-numbers-requires : tie.Need-put-numbers-requires
 put-numbers-requires c κs = search needs
