@@ -1,6 +1,5 @@
 -- The trial of all bursts, for any code of the right form:
 --
---   boxNumber                the pattern number of a set of cells in a rectangle
 --   box-inside, box-number   a pattern number gives cells inside its rectangle, and every set inside one has a number
 --   trial-rows, trial-columns   the rectangle of a trial lies on the sheet
 --   trial-burst, burst-trial   every trial is a burst, and every burst is a trial
@@ -18,10 +17,10 @@ use native.Mathlib.Omega.{arith}
 use lib.Arith.{digits-lt, digits-div, digits-mod}
 use lib.Pow.{pow-pos}
 use borrow.Author.Tests.{ltb-true, lt-ltb}
-use Rattle.finite.specs.Search.{bit, within, least, numberOf}
+use Rattle.finite.specs.Search.{bit, within, least}
 use Rattle.boxcode.specs.Code.{Code, Formed}
 use Rattle.boxcode.specs.Syndrome.{Cells, rowSyndrome, columnSyndrome, SameCells}
-use Rattle.boxcode.specs.Burst.{Inside, Burst, boxCells, patterns, lefts, trials, trialTop, trialLeft, trialPattern, trialCells}
+use Rattle.boxcode.specs.Burst.{Inside, Burst, boxCells, boxNumber, patterns, lefts, trials, trialTop, trialLeft, trialPattern, trialCells}
 use Rattle.boxcode.specs.Burst.{tried, hasBurst, burstFor}
 use Rattle.finite.proofs.Truth.{both-equal, equal-both, same-truth, and-left, and-right, and-both, within-from, within-to, in-within}
 use Rattle.finite.proofs.Search.{least-found, least-most}
@@ -50,12 +49,8 @@ module _ (top left height width : ℕ) where
       column : (i j : ℕ) → (within top height i && rest i j) ≡ true → within left width j ≡ true
       column i j t = and-left (within left width j) (digit i j) (and-right (within top height i) (rest i j) t)
 
-  -- the number of the pattern that a set of cells has in the rectangle
-  unfoldable pub boxNumber : Cells → ℕ
-  boxNumber e = numberOf (height * width) (λ k. e (top + k / width) (left + k % width))
-
   box-digit : (e : Cells) (i j : ℕ) → top ≤ i → i < top + height → left ≤ j → j < left + width
-      → bit (boxNumber e) ((i - top) * width + (j - left)) ≡ e i j
+      → bit (boxNumber top left height width e) ((i - top) * width + (j - left)) ≡ e i j
   unfolding boxNumber
   box-digit e i j fi ti fj tj =
       let li : i - top < height = omega arith in
@@ -64,7 +59,8 @@ module _ (top left height width : ℕ) where
       ∙ ap₂ (λ (x y : ℕ). e (top + x) (left + y)) (digits-div (i - top) lj) (digits-mod (i - top) lj)
       ∙ ap₂ e (let a : top + (i - top) ≡ i = omega arith in a) (let b : left + (j - left) ≡ j = omega arith in b)
 
-  pub box-number : (e : Cells) → Inside top left height width e → (i j : ℕ) → boxCells top left height width (boxNumber e) i j ≡ e i j
+  pub box-number : (e : Cells) → Inside top left height width e → (i j : ℕ)
+      → boxCells top left height width (boxNumber top left height width e) i j ≡ e i j
   unfolding boxCells
   box-number e on i j =
       same-truth (within top height i && (within left width j && digit)) (e i j)
@@ -80,7 +76,7 @@ module _ (top left height width : ℕ) where
       (box-digit e i j (on .row-from i j t) (on .row-to i j t) (on .column-from i j t) (on .column-to i j t) ∙ t)))
     where
       digit : Bool
-      digit = bit (boxNumber e) ((i - top) * width + (j - left))
+      digit = bit (boxNumber top left height width e) ((i - top) * width + (j - left))
 
 -- ---- trials
 

@@ -3,6 +3,7 @@
 --   Burst c e        e is a set of cells inside one rectangle of b1 rows and b2 columns on the sheet
 --   Fits c s e       the sheet with e turned over belongs to the plan
 --   boxCells         the cells of pattern number x in a rectangle: row r and column t of it have digit r × width + t
+--   boxNumber        the number of the pattern that a set of cells has in a rectangle
 --   trials           how many rectangles and patterns there are to try
 --   trialTop, trialLeft, trialPattern   trial number t: rectangles in sheet order, the patterns of each by number
 --   trialCells       its cells
@@ -13,7 +14,7 @@ use Prim.Native.Nat.{ℕ, _+_, _-_, _*_, _/_, _%_, _^_, _≤_, _<_}
 use mathlib.Core.Path.{_≡_}
 use mathlib.Core.Bool.{Bool, true, _&&_}
 use lib.Dec.{eqb, ltb}
-use Rattle.finite.specs.Search.{bit, within, least}
+use Rattle.finite.specs.Search.{bit, within, least, numberOf}
 use Rattle.boxcode.specs.Code.{Code}
 use Rattle.boxcode.specs.Syndrome.{Cells, Belongs, flip, rowSyndrome, columnSyndrome}
 
@@ -36,6 +37,9 @@ Fits c s e = Belongs c (flip s e)
 unfoldable pub boxCells : (top left height width x : ℕ) → Cells
 boxCells top left height width x i j =
     within top height i && (within left width j && bit x ((i - top) * width + (j - left)))
+
+unfoldable pub boxNumber : (top left height width : ℕ) → Cells → ℕ
+boxNumber top left height width e = numberOf (height * width) (λ k. e (top + k / width) (left + k % width))
 
 -- patterns of one rectangle, rectangles in one row of them, and all trials
 unfoldable pub patterns : Code → ℕ

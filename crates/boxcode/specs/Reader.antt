@@ -5,6 +5,7 @@
 --   Report       how many cells were turned over, and the smallest rectangle that holds them; five zeros where none were
 --   cellCount    the number of cells of a set
 --   rowTouched, columnTouched   a row, and a column, has a cell of the set
+--   topOf, leftOf, heightOf, widthOf   the smallest rectangle that holds a set of cells
 --   reportOf     the report of a set of cells
 --   noReport     five zeros
 --   LiesIn       the rectangle of a report lies in another
@@ -40,14 +41,21 @@ rowTouched c e i = anyBelow (c .n2) (e i)
 unfoldable pub columnTouched : Code → Cells → ℕ → Bool
 columnTouched c e j = anyBelow (c .n1) (λ i. e i j)
 
+-- the smallest rectangle that holds the set
+abbrev pub topOf : Code → Cells → ℕ
+topOf c e = firstOf (c .n1) (rowTouched c e)
+
+abbrev pub leftOf : Code → Cells → ℕ
+leftOf c e = firstOf (c .n2) (columnTouched c e)
+
+abbrev pub heightOf : Code → Cells → ℕ
+heightOf c e = pastOf (c .n1) (rowTouched c e) - topOf c e
+
+abbrev pub widthOf : Code → Cells → ℕ
+widthOf c e = pastOf (c .n2) (columnTouched c e) - leftOf c e
+
 unfoldable pub reportOf : Code → Cells → Report
-reportOf c e = record {
-  cells = cellCount (c .n1) (c .n2) e;
-  top = firstOf (c .n1) (rowTouched c e);
-  left = firstOf (c .n2) (columnTouched c e);
-  height = pastOf (c .n1) (rowTouched c e) - firstOf (c .n1) (rowTouched c e);
-  width = pastOf (c .n2) (columnTouched c e) - firstOf (c .n2) (columnTouched c e);
-}
+reportOf c e = record { cells = cellCount (c .n1) (c .n2) e; top = topOf c e; left = leftOf c e; height = heightOf c e; width = widthOf c e }
 
 abbrev pub noReport : Report
 noReport = record { cells = 0; top = 0; left = 0; height = 0; width = 0 }

@@ -3,7 +3,7 @@
 --   bit-zero, bit-suc    the lowest digit, and the digits above it
 --   bit-none, bit-power  the digits of 0 and of a power of two
 --   numberOf n p     the number below 2 to the power n whose digit k is p k
---   number-below, bit-number, bits-equal    its laws: below the bound, the digits, and a number is known by its digits
+--   number-equal, number-below, bit-number, bits-equal    its laws: equal digits, below the bound, the digits, and a number is known by its digits
 --   place-from, place-to, place-mod, place-is   place b a r stands among the b numbers from a on and has remainder r,
 --                    and every number there is the place of its remainder (place-unique: no two have the same)
 --
@@ -58,6 +58,12 @@ bit-power a k = go (ℕ-discrete a k)
     go : Dec (a ≡ k) → bit (2 ^ a) k ≡ eqb a k
     go (yes e) = ap (λ (x : ℕ). bit (2 ^ a) x) (sym e) ∙ bit-same a ∙ sym (eq-eqb a k e)
     go (no h) = bit-other a k h ∙ sym (ne-eqb a k h)
+
+pub number-equal : (n : ℕ) (p q : ℕ → Bool) → ((k : ℕ) → k < n → p k ≡ q k) → numberOf n p ≡ numberOf n q
+unfolding numberOf
+number-equal zero p q h = refl
+number-equal (suc n) p q h =
+    ap₂ (λ (b : Bool) (x : ℕ). cond b 1 0 + 2 * x) (h 0 (zero-lt-suc n)) (number-equal n (λ k. p (suc k)) (λ k. q (suc k)) (λ k l. h (suc k) (omega arith)))
 
 pub number-below : (n : ℕ) (p : ℕ → Bool) → numberOf n p < 2 ^ n
 unfolding numberOf

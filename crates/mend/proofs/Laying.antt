@@ -19,15 +19,15 @@ use Rattle.gf2.specs.Sum.{xorSum}
 use Rattle.gf2.proofs.Sum.{sum-equal, sum-zero}
 use Rattle.finite.specs.Search.{bit}
 use Rattle.finite.proofs.Truth.{not-true, in-within}
+use Rattle.finite.proofs.Digits.{number-equal}
 use Rattle.boxcode.specs.Code.{Code, Formed, columnWeight}
 use Rattle.boxcode.specs.Syndrome.{Cells, weightSum, columnSyndrome}
-use Rattle.boxcode.specs.Burst.{Inside, boxCells}
+use Rattle.boxcode.specs.Burst.{Inside, boxCells, boxNumber}
 use Rattle.boxcode.proofs.Image.{unpicked}
 use Rattle.boxcode.proofs.Pattern.{weighed}
 use Rattle.boxcode.proofs.Laid.{laid, laid-inside}
-use Rattle.boxcode.proofs.Trial.{boxNumber, box-number}
+use Rattle.boxcode.proofs.Trial.{box-number}
 use Rattle.mend.specs.Strip.{laidCell, laidRow, laidLine, laidSum, laidDigit, boxPattern}
-use Rattle.mend.proofs.Turns.{number-equal}
 use Rattle.mend.proofs.Runs.{run-sum}
 use Rattle.mend.proofs.Window.{inWindow, in-window, window-place}
 

@@ -104,94 +104,94 @@ line-column x b1 b2 d =
 
 -- ---- the report
 
-module _ (c : Code) (top left x : ℕ) (pos : 0 < c .b2) (rows : top + c .b1 ≤ c .n1) (columns : left + c .b2 ≤ c .n2) where
+module _ (c : Code) (top left b1 b2 x : ℕ) (pos : 0 < b2) (rows : top + b1 ≤ c .n1) (columns : left + b2 ≤ c .n2) where
   cells : Cells
-  cells = boxCells top left (c .b1) (c .b2) x
+  cells = boxCells top left b1 b2 x
 
-  in-box : Inside top left (c .b1) (c .b2) cells
+  in-box : Inside top left b1 b2 cells
   unfolding cells
-  in-box = box-inside top left (c .b1) (c .b2) x
+  in-box = box-inside top left b1 b2 x
 
   abbrev rowHas : ℕ → Bool
-  rowHas = lineHas x (c .b2) 1 (c .b2)
+  rowHas = lineHas x b2 1 b2
 
   abbrev columnHas : ℕ → Bool
-  columnHas = lineHas x 1 (c .b2) (c .b1)
+  columnHas = lineHas x 1 b2 b1
 
-  rows-run : Run (c .n1) top (c .b1) (rowTouched c cells) rowHas
+  rows-run : Run (c .n1) top b1 (rowTouched c cells) rowHas
   unfolding rowTouched cells e
   rows-run = record {
     on = rows;
     same = λ r lr.
-        run-any (c .n2) left (c .b2) (boxCells top left (c .b1) (c .b2) x (top + r)) (λ d. bit x (r * c .b2 + d))
-        (row-run (c .n1) (c .n2) top left (c .b1) (c .b2) x rows columns r lr)
-        ∙ sym (line-row x (c .b2) r);
+        run-any (c .n2) left b2 (boxCells top left b1 b2 x (top + r)) (λ d. bit x (r * b2 + d))
+        (row-run (c .n1) (c .n2) top left b1 b2 x rows columns r lr)
+        ∙ sym (line-row x b2 r);
     from = λ i t. let w = any-found (c .n2) (cells i) t in in-box .row-from i (w .0) (w .2);
     to = λ i t. let w = any-found (c .n2) (cells i) t in in-box .row-to i (w .0) (w .2);
   }
 
-  columns-run : Run (c .n2) left (c .b2) (columnTouched c cells) columnHas
+  columns-run : Run (c .n2) left b2 (columnTouched c cells) columnHas
   unfolding columnTouched cells e
   columns-run = record {
     on = columns;
     same = λ d ld.
-        run-any (c .n1) top (c .b1) (λ i. boxCells top left (c .b1) (c .b2) x i (left + d)) (λ r. bit x (r * c .b2 + d))
-        (column-run (c .n1) (c .n2) top left (c .b1) (c .b2) x rows columns d ld)
-        ∙ sym (line-column x (c .b1) (c .b2) d);
+        run-any (c .n1) top b1 (λ i. boxCells top left b1 b2 x i (left + d)) (λ r. bit x (r * b2 + d))
+        (column-run (c .n1) (c .n2) top left b1 b2 x rows columns d ld)
+        ∙ sym (line-column x b1 b2 d);
     from = λ j t. let w = any-found (c .n1) (λ i. cells i j) t in in-box .column-from (w .0) j (w .2);
     to = λ j t. let w = any-found (c .n1) (λ i. cells i j) t in in-box .column-to (w .0) j (w .2);
   }
 
   count : ℕ
-  count = countBelow (c .b1 * c .b2) (bit x)
+  count = countBelow (b1 * b2) (bit x)
 
   cells-count : cellCount (c .n1) (c .n2) cells ≡ count
   unfolding cells e count
-  cells-count = box-cells (c .n1) (c .n2) top left (c .b1) (c .b2) x rows columns
+  cells-count = box-cells (c .n1) (c .n2) top left b1 b2 x rows columns
 
   -- a digit that is 1 stands in a row and in a column
-  module _ (k : ℕ) (l : k < c .b1 * c .b2) (t : bit x k ≡ true) where
-    digit-home : bit x (k / c .b2 * c .b2 + k % c .b2) ≡ true
-    digit-home = ap (bit x) (div-add-mod' k (c .b2)) ∙ t
+  module _ (k : ℕ) (l : k < b1 * b2) (t : bit x k ≡ true) where
+    digit-home : bit x (k / b2 * b2 + k % b2) ≡ true
+    digit-home = ap (bit x) (div-add-mod' k b2) ∙ t
 
-    some-row : anyBelow (c .b1) rowHas ≡ true
+    some-row : anyBelow b1 rowHas ≡ true
     some-row =
-        any-here (c .b1) rowHas (k / c .b2) (div-lt-iff-lt-mul pos .1 l)
-        (line-row x (c .b2) (k / c .b2) ∙ any-here (c .b2) (λ d. bit x (k / c .b2 * c .b2 + d)) (k % c .b2) (mod-lt k pos) digit-home)
+        any-here b1 rowHas (k / b2) (div-lt-iff-lt-mul pos .1 l)
+        (line-row x b2 (k / b2) ∙ any-here b2 (λ d. bit x (k / b2 * b2 + d)) (k % b2) (mod-lt k pos) digit-home)
 
-    some-column : anyBelow (c .b2) columnHas ≡ true
+    some-column : anyBelow b2 columnHas ≡ true
     some-column =
-        any-here (c .b2) columnHas (k % c .b2) (mod-lt k pos)
-        (line-column x (c .b1) (c .b2) (k % c .b2)
-        ∙ any-here (c .b1) (λ r. bit x (r * c .b2 + k % c .b2)) (k / c .b2) (div-lt-iff-lt-mul pos .1 l) digit-home)
+        any-here b2 columnHas (k % b2) (mod-lt k pos)
+        (line-column x b1 b2 (k % b2)
+        ∙ any-here b1 (λ r. bit x (r * b2 + k % b2)) (k / b2) (div-lt-iff-lt-mul pos .1 l) digit-home)
 
     count-some : count ≡ 0 → ⊥
     unfolding count
-    count-some e = let r : countBelow k (bit x) < countBelow (c .b1 * c .b2) (bit x) = count-rise k (c .b1 * c .b2) (bit x) t l in omega arith
+    count-some e = let r : countBelow k (bit x) < countBelow (b1 * b2) (bit x) = count-rise k (b1 * b2) (bit x) t l in omega arith
 
   size-moved : (a f g f' g' : ℕ) → f ≡ a + f' → g ≡ a + g' → g - f ≡ g' - f'
   size-moved a f g f' g' p q = omega arith
 
-  pub box-report : reportOf c (boxCells top left (c .b1) (c .b2) x) ≡ boxReport top left (c .b1) (c .b2) x
+  pub box-report : reportOf c (boxCells top left b1 b2 x) ≡ boxReport top left b1 b2 x
   unfolding boxReport cells count
-  box-report = go (true-or-false (anyBelow (c .b1 * c .b2) (bit x)))
+  box-report = go (true-or-false (anyBelow (b1 * b2) (bit x)))
     where
-      go : Truth (anyBelow (c .b1 * c .b2) (bit x)) → reportOf c (boxCells top left (c .b1) (c .b2) x) ≡ boxReport top left (c .b1) (c .b2) x
+      go : Truth (anyBelow (b1 * b2) (bit x)) → reportOf c (boxCells top left b1 b2 x) ≡ boxReport top left b1 b2 x
       go (is-false t) =
-          let z : count ≡ 0 = count-none (c .b1 * c .b2) (bit x) (any-none (c .b1 * c .b2) (bit x) t) in
+          let z : count ≡ 0 = count-none (b1 * b2) (bit x) (any-none (b1 * b2) (bit x) t) in
           let n : cellCount (c .n1) (c .n2) cells ≡ 0 = cells-count ∙ z in
           rw (eq-eqb count 0 z)
           (report-none c cells
           (λ i j li lj.
           not-true (cells i j) (λ u. let p : 0 < cellCount (c .n1) (c .n2) cells = cells-some (c .n1) (c .n2) cells i j li lj u in omega arith)))
       go (is-true t) =
-          let w = any-found (c .b1 * c .b2) (bit x) t in
+          let w = any-found (b1 * b2) (bit x) t in
           let ar = some-row (w .0) (w .1) (w .2) in
           let ac = some-column (w .0) (w .1) (w .2) in
-          let fr = run-first (c .n1) top (c .b1) (rowTouched c cells) rowHas rows-run ar in
-          let pr = run-past (c .n1) top (c .b1) (rowTouched c cells) rowHas rows-run ar in
-          let fc = run-first (c .n2) left (c .b2) (columnTouched c cells) columnHas columns-run ac in
-          let pc = run-past (c .n2) left (c .b2) (columnTouched c cells) columnHas columns-run ac in
+          let fr = run-first (c .n1) top b1 (rowTouched c cells) rowHas rows-run ar in
+          let pr = run-past (c .n1) top b1 (rowTouched c cells) rowHas rows-run ar in
+          let fc = run-first (c .n2) left b2 (columnTouched c cells) columnHas columns-run ac in
+          let pc = run-past (c .n2) left b2 (columnTouched c cells) columnHas columns-run ac in
           rw (ne-eqb count 0 (count-some (w .0) (w .1) (w .2)))
           (unfold reportOf in λ i. record {
             cells = cells-count i;
@@ -204,7 +204,7 @@ module _ (c : Code) (top left x : ℕ) (pos : 0 < c .b2) (rows : top + c .b1 ≤
 pub found-report : (c : Code) → Formed c → (v s top left x : ℕ) → IsBurst c v s top left x → reportOf c (burstFor c v s) ≡ boxReport top left (c .b1) (c .b2) x
 found-report c F v s top left x b =
     sym (report-cells c (boxCells top left (c .b1) (c .b2) x) (burstFor c v s) (λ i j li lj. b .cells i j))
-    ∙ box-report c top left x (F .b2-pos) (b .rows-on) (b .columns-on)
+    ∙ box-report c top left (c .b1) (c .b2) x (F .b2-pos) (b .rows-on) (b .columns-on)
 
 -- ---- as the code finds it
 

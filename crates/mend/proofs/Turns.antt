@@ -5,7 +5,7 @@
 --   mod-start, mod-next   remainders counted up from that of a number
 --   sum-start, sum-more   one summand more, as the code's exclusive-or has it
 --   entry-stored          one entry more of a table in the first words of an array
---   digitsFrom, digits-start, -more, -all, -below, number-equal   a number by its digits, from the highest on
+--   digitsFrom, digits-start, -more, -all, -below   a number by its digits, from the highest on
 --   first-found, past-here, past-before   lines tried in turn, from the first on and from the last back
 --   small-burst, box-size   the sizes of a burst: at most 16 places
 --
@@ -29,7 +29,7 @@ use Rattle.gf2.proofs.Xor.{xor-is}
 use Rattle.gf2.proofs.Sum.{sum-none, sum-next}
 use Rattle.finite.specs.Search.{bit, numberOf, firstOf, pastOf}
 use Rattle.finite.proofs.Truth.{clash}
-use Rattle.finite.proofs.Digits.{number-below}
+use Rattle.finite.proofs.Digits.{number-equal, number-below}
 use Rattle.finite.proofs.Search.{First, any-here, first-is}
 use Rattle.plan.specs.declared.header.Header.{Header}
 use Rattle.plan.specs.Header.{Small}
@@ -89,12 +89,6 @@ entry-stored f words k x l n h e = (length-set words k x ∙ n, λ j lj. at j lj
     at j lj (no q) = getD-set-other words k j x 0 q ∙ h j (omega arith)
 
 -- ---- numbers by digits
-
-pub number-equal : (n : ℕ) (p q : ℕ → Bool) → ((k : ℕ) → k < n → p k ≡ q k) → numberOf n p ≡ numberOf n q
-unfolding numberOf
-number-equal zero p q h = refl
-number-equal (suc n) p q h =
-    ap₂ (λ (b : Bool) (x : ℕ). cond b 1 0 + 2 * x) (h 0 (zero-lt-suc n)) (number-equal n (λ k. p (suc k)) (λ k. q (suc k)) (λ k l. h (suc k) (omega arith)))
 
 -- the digits of p from k on, up to m
 unfoldable pub digitsFrom : ℕ → ℕ → (ℕ → Bool) → ℕ
