@@ -1,6 +1,6 @@
 -- The answer of the test of a plan is small: its number and places fit the fields of the packed answer.
 --
---   SmallVerdict v    number below 32, p below 65,536, q below 4,096
+--   SmallVerdict v    number below 32, p below 65,536, q below 4,096; and places 0, 0 where the number is 0
 --   else-fits, if-fits, at-fits, pair-fits   of the parts an answer is made of
 --   plan-fits         of the test of a plan
 --
@@ -35,9 +35,15 @@ pub record SmallVerdict (v : Verdict) : Type 0 where
   pub number-fits : v .number < 32
   pub p-fits : v .p < 65536
   pub q-fits : v .q < 4096
+  -- the sentence of document 01: "A call that succeeds has number 0 and places 0, 0"
+  pub silent : v .number ≡ 0 → (v .p ≡ 0) × (v .q ≡ 0)
+
+-- a number that is not 0 is that of a refusal, which may have places
+refuses : {v : Verdict} → 0 < v .number → v .number ≡ 0 → (v .p ≡ 0) × (v .q ≡ 0)
+refuses l e = absurd (omega arith)
 
 pub accepted-fits : SmallVerdict accepted
-accepted-fits = record { number-fits = omega arith; p-fits = omega arith; q-fits = omega arith }
+accepted-fits = record { number-fits = omega arith; p-fits = omega arith; q-fits = omega arith; silent = λ _. (refl, refl) }
 
 pub else-fits : (v w : Verdict) → SmallVerdict v → (v .number ≡ 0 → SmallVerdict w) → SmallVerdict (v orElse w)
 unfolding _orElse_
@@ -76,17 +82,17 @@ rows-below ok start n (suc m) i s u =
     let l = s i (omega arith) in
     row-below ok n i (n - start i) (start i) (fromRow ok start n (suc i) m) (omega arith) (omega arith) (rows-below ok start n m (suc i) s (omega arith))
 
-pub pair-fits : (number n : ℕ) (ok : ℕ → ℕ → Bool) (start : ℕ → ℕ) → number < 32 → n ≤ 4096 → ((k : ℕ) → k < n → start k ≤ n)
+pub pair-fits : (number n : ℕ) (ok : ℕ → ℕ → Bool) (start : ℕ → ℕ) → 0 < number → number < 32 → n ≤ 4096 → ((k : ℕ) → k < n → start k ≤ n)
     → SmallVerdict (pairVerdict number (firstFailing ok start n))
 unfolding firstFailing PairBelow
-pair-fits number n ok start l u s = go (fromRow ok start n 0 n) (rows-below ok start n n 0 s (omega arith))
+pair-fits number n ok start some l u s = go (fromRow ok start n 0 n) (rows-below ok start n n 0 s (omega arith))
   where
     go : (p : Pair) → PairBelow n p → SmallVerdict (pairVerdict number p)
-    go (Failing i j) b = record { number-fits = l; p-fits = omega (arith, b .0); q-fits = omega (arith, b .1) }
+    go (Failing i j) b = record { number-fits = l; p-fits = omega (arith, b .0); q-fits = omega (arith, b .1); silent = refuses some }
     go Clear b = accepted-fits
 
 pub refusal-fits : (n : ℕ) → n < 32 → SmallVerdict (refusal n 0 0)
-refusal-fits n l = record { number-fits = l; p-fits = omega arith; q-fits = omega arith }
+refusal-fits n l = record { number-fits = l; p-fits = omega arith; q-fits = omega arith; silent = λ _. (refl, refl) }
 
 pub sizes-fits : (h : Header) → SmallVerdict (sizesVerdict h)
 unfolding sizesVerdict
@@ -114,17 +120,20 @@ header-fits s =
     (if-fits (ltb (length s) headerLength) (refusal 1 0 0) (λ _. refusal-fits 1 (omega arith))) (λ _. fields-fits (length s) (headerOf s))
 
 -- a refusal at an index of a table, or of the check list
-index-fits : (n k m p : ℕ) → n ≤ 2792 → m < 32 → p ≤ 1 → SmallVerdict (verdictAt n k (refusal m p k))
-index-fits n k m p u l o = at-fits n k (refusal m p k) (λ lk. record { number-fits = l; p-fits = omega arith; q-fits = omega arith })
+index-fits : (n k m p : ℕ) → n ≤ 2792 → 0 < m → m < 32 → p ≤ 1 → SmallVerdict (verdictAt n k (refusal m p k))
+index-fits n k m p u some l o =
+    at-fits n k (refusal m p k) (λ lk. record { number-fits = l; p-fits = omega arith; q-fits = omega arith; silent = refuses some })
 
-place-fits : (n k m : ℕ) → n ≤ 64 → m < 32 → SmallVerdict (verdictAt n k (refusal m k 0))
-place-fits n k m u l = at-fits n k (refusal m k 0) (λ lk. record { number-fits = l; p-fits = omega arith; q-fits = omega arith })
+place-fits : (n k m : ℕ) → n ≤ 64 → 0 < m → m < 32 → SmallVerdict (verdictAt n k (refusal m k 0))
+place-fits n k m u some l =
+    at-fits n k (refusal m k 0) (λ lk. record { number-fits = l; p-fits = omega arith; q-fits = omega arith; silent = refuses some })
 
 entries-fits : (c : Code) → c .n1 * c .b2 ≤ 2048 → c .n2 * c .b1 ≤ 2792 → SmallVerdict (entriesVerdict c)
 unfolding entriesVerdict
 entries-fits c u w =
     else-fits (verdictAt (c .n1 * c .b2) v (refusal 6 0 v)) (verdictAt (c .n2 * c .b1) h (refusal 6 1 h))
-    (index-fits (c .n1 * c .b2) v 6 0 (omega arith) (omega arith) (omega arith)) (λ _. index-fits (c .n2 * c .b1) h 6 1 w (omega arith) (omega arith))
+    (index-fits (c .n1 * c .b2) v 6 0 (omega arith) (omega arith) (omega arith) (omega arith))
+    (λ _. index-fits (c .n2 * c .b1) h 6 1 w (omega arith) (omega arith) (omega arith))
   where
     v : ℕ
     v = firstLarge (c .n1 * c .b2) (c .rv) (c .rowEntry)
@@ -134,7 +143,7 @@ entries-fits c u w =
 
 list-fits : (c : Code) → c .rv + c .rh ≤ 64 → SmallVerdict (listVerdict c)
 unfolding listVerdict
-list-fits c u = place-fits (c .rv + c .rh) (least (c .rv + c .rh) (badPair c)) 7 u (omega arith)
+list-fits c u = place-fits (c .rv + c .rh) (least (c .rv + c .rh) (badPair c)) 7 u (omega arith) (omega arith)
 
 form-fits : (s : List ℕ) → SmallVerdict (formVerdict s)
 unfolding formVerdict codeOf
@@ -148,11 +157,11 @@ conditions-fits : (c : Code) → Formed c → SmallVerdict (conditionsVerdict c)
 unfolding conditionsVerdict rowsVerdict columnsVerdict checksVerdict
 conditions-fits c F =
     else-fits (rowsVerdict c) (columnsVerdict c orElse checksVerdict c)
-    (pair-fits 8 (c .n1 - c .b1 + 1) (rowPairFree c) (λ i. i) (omega arith) (omega (arith, F .n1-most)) (λ k l. omega arith))
+    (pair-fits 8 (c .n1 - c .b1 + 1) (rowPairFree c) (λ i. i) (omega arith) (omega arith) (omega (arith, F .n1-most)) (λ k l. omega arith))
     (λ _. else-fits (columnsVerdict c) (checksVerdict c)
-    (pair-fits 9 (c .n2 - c .b2 + 1) (columnPairFree c) (λ i. i + 1) (omega arith) (omega (arith, F .n2-most)) (λ k l. omega arith))
+    (pair-fits 9 (c .n2 - c .b2 + 1) (columnPairFree c) (λ i. i + 1) (omega arith) (omega arith) (omega (arith, F .n2-most)) (λ k l. omega arith))
     (λ _. place-fits (c .rv + c .rh) (least (c .rv + c .rh) (λ k. spanned k everyone (checkJoint c) (checkJoint c k))) 10
-    (omega (arith, F .rv-most, F .rh-most)) (omega arith)))
+    (omega (arith, F .rv-most, F .rh-most)) (omega arith) (omega arith)))
 
 pub plan-fits : (s : List ℕ) → SmallVerdict (planVerdict s)
 unfolding planVerdict

@@ -35,7 +35,7 @@ make-fits g plan =
     else-fits (givenChecks g (length plan)) (rowsVerdict c orElse columnsVerdict c orElse taken) (given-fits g (length plan))
     (λ e. let p = given-good g (length plan) e .small in
     else-fits (rowsVerdict c) (columnsVerdict c orElse taken)
-    (pair-fits 8 (h .n1 - h .b1 + 1) (rowPairFree c) (λ i. i) (omega arith) (omega (arith, p .n1-most)) (λ k l. omega arith))
+    (pair-fits 8 (h .n1 - h .b1 + 1) (rowPairFree c) (λ i. i) (omega arith) (omega arith) (omega (arith, p .n1-most)) (λ k l. omega arith))
     (λ _. else-fits (columnsVerdict c) taken
-    (pair-fits 9 (h .n2 - h .b2 + 1) (columnPairFree c) (λ i. i + 1) (omega arith) (omega (arith, p .n2-most)) (λ k l. omega arith))
+    (pair-fits 9 (h .n2 - h .b2 + 1) (columnPairFree c) (λ i. i + 1) (omega arith) (omega arith) (omega (arith, p .n2-most)) (λ k l. omega arith))
     (λ _. if-fits (ltb (length (takenCells h (rowTable g) (columnTable g))) (h .rv + h .rh)) (refusal 16 0 0) (λ _. refusal-fits 16 (omega arith)))))

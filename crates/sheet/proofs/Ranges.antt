@@ -69,7 +69,7 @@ use Rattle.sheet.specs.Calls.{verdictFields, reportFields, makeReply, ma
 
 -- a refusal with places 0, 0
 told-fits : (t : Bool) (n : ℕ) → n < 32 → SmallVerdict (verdictIf t (refusal n 0 0))
-told-fits t n l = if-fits t (refusal n 0 0) (λ _. record { number-fits = l; p-fits = omega arith; q-fits = omega arith })
+told-fits t n l = if-fits t (refusal n 0 0) (λ _. record { number-fits = l; p-fits = omega arith; q-fits = omega arith; silent = λ _. (refl, refl) })
 
 length-fits : (n : ℕ) (s : List ℕ) (size : ℕ) → n < 32 → SmallVerdict (lengthVerdict n s size)
 unfolding lengthVerdict
@@ -79,7 +79,7 @@ unused-fits : (lay : Layout) (n1 n2 : ℕ) (s : List ℕ) → sizeIn lay n1 n2 �
 unfolding unusedVerdict
 unused-fits lay n1 n2 s u =
     at-fits (sizeIn lay n1 n2) (firstUnusedIn lay n1 n2 s) (refusal 13 (firstUnusedIn lay n1 n2 s) 0)
-    (λ l. record { number-fits = omega arith; p-fits = omega arith; q-fits = omega arith })
+    (λ l. record { number-fits = omega arith; p-fits = omega arith; q-fits = omega arith; silent = λ e. absurd (omega arith) })
 
 -- checks 1 to 11; 1 to 12, and then others
 sheets-fit : (lay : Layout) (plan sheet : List ℕ) → SmallVerdict (sheetChecks lay plan sheet)
@@ -195,7 +195,7 @@ stack-fits plan stack numbers bits =
 
 found-fits : (r : Found) → SmallVerdict (foundVerdict r)
 found-fits (Burst top left x) = accepted-fits
-found-fits Nothing = record { number-fits = omega arith; p-fits = omega arith; q-fits = omega arith }
+found-fits Nothing = record { number-fits = omega arith; p-fits = omega arith; q-fits = omega arith; silent = λ _. (refl, refl) }
 
 pub read-fits : (lay : Layout) (plan sheet bits : List ℕ) → SmallVerdict (readIn lay plan sheet bits .verdict)
 unfolding readIn readVerdict
