@@ -1,8 +1,8 @@
 /*
  * A whole host: makes a plan for sheets of 16 rows and 40 columns and bursts of 3 by 3 cells, writes a drawing to a
- * sheet, puts a burst on it, sums it in two halves, reads it back, and by trial too, alters one stitch, reads two scans
- * that each have a burst, reads a stack of sheets from two rooms, reads a sheet that a scanner stored by columns, and
- * shows each step.
+ * sheet, puts a burst on it, sums it in two halves, reads it back, and by trial too, puts the burst back as it was
+ * scanned, alters one stitch, reads two scans that each have a burst, reads a stack of sheets from two rooms, reads a
+ * sheet that a scanner stored by columns, and shows each step.
  * Cells inside the mended rectangle are shown as O (dark) and o (light).
  *
  *     gcc -Iinclude examples/host.c target/staticlib/libsheet.a -o host && ./host
@@ -134,6 +134,16 @@ static int read_by_trial(uint64_t usual) {
     return memcmp(second, sheet, SHEET_LEN) == 0 && memcmp(back, data, DATA_LEN) == 0;
 }
 
+/* The burst put back on a copy of what the read left, as a cleaning trial asks: it is the film as it was scanned. */
+static int put_back(uint64_t answer) {
+    uint8_t film[SHEET_LEN];
+    memcpy(film, sheet, SHEET_LEN);
+    put_burst(film);
+    memcpy(second, scan, SHEET_LEN);
+    if (sheet_put_back(plan, plan_len, second, SHEET_LEN, answer) != SHEET_OK) return 0;
+    return memcmp(second, film, SHEET_LEN) == 0;
+}
+
 /* A row as it lies in the second scan, where a part of that begins. */
 static void show_row(const uint8_t *row) {
     for (size_t j = 0; j < COLUMNS; j++) putchar(dark(row, 0, j) ? '#' : '.');
@@ -250,6 +260,8 @@ int main(void) {
     printf("the sheet and its data are as written\n");
     if (!read_by_trial(answer)) return 1;
     printf("by trial, pattern after pattern, it is read as the same\n");
+    if (!put_back(answer)) return 1;
+    printf("with pattern %u put back it is the film as scanned\n", sheet_answer_pattern(answer));
 
     if (!alter_stitch(7, 16)) return 1;
     show("\nthe stitch at row 7, column 16 altered, and with it check cells:", scan, 0);

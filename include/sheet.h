@@ -1,23 +1,25 @@
 /*
  * sheet.h: pattern sheets that survive one burst.
  *
- * Fifteen calls on byte buffers: make a plan, make the house plan, test a plan, write a sheet, read a sheet, sum a run
+ * Sixteen calls on byte buffers: make a plan, make the house plan, test a plan, write a sheet, read a sheet, sum a run
  * of rows, alter one data bit of a sheet, read two scans of one film, find the row where two scans first differ, read a
  * stack of sheets, write a sheet by columns, read one, turn a sheet by rows into one by columns, turn one by columns
- * into one by rows, and read a sheet by trial. Each answers one 64-bit number, which the functions below take apart.
- * The bytes of plans, sheets, stacks and data are described in docs/FORMAT.md.
+ * into one by rows, read a sheet by trial, and put a burst back. Each answers one 64-bit number, which the functions
+ * below take apart. The bytes of plans, sheets, stacks and data are described in docs/FORMAT.md.
  *
  * Promise, proved for every accepted plan (docs/PROMISE.md): a sheet that sheet_write made, with any cells of one
  * rectangle of the plan's b1 rows and b2 columns turned over, is read back by sheet_read as it was written. Two scans
  * of one such sheet, a burst on either or both, always give its data by sheet_read_two; and each sheet of a stack is
  * read as if it were alone. A sheet by columns is written, read and mended as the one by rows that has the same cells,
- * and turned from one layout into the other it loses nothing.
+ * and turned from one layout into the other it loses nothing. From the sheet that a read leaves and its answer,
+ * sheet_put_back restores the scan, bit for bit.
  *
  * Words. This header has one word for each thing; the knitter's word stands after it:
  *     sheet     the film: n1 rows by n2 columns of dark and light cells
  *     row       a course
  *     column    a needle
  *     burst     a blot: cells turned over inside one rectangle of b1 rows and b2 columns; it may be empty
+ *     pattern   the cells of a burst, as a number: row r and column s of the smallest rectangle have bit r * width + s
  *     window    b1 consecutive rows                    strip    b2 consecutive columns
  *     plan      the tables under which sheets are written and read
  *     accepted  of a plan: sheet_plan_test answers SHEET_OK
@@ -36,8 +38,8 @@
  * lowest bit of a column's first byte. The unused high bits of each last byte are 0. Sheets are by columns where a
  * call's name or its text says so: in sheet_write_by_column and sheet_read_by_column, in the target of
  * sheet_to_columns, and in the source of sheet_to_rows. All other calls keep to sheets by rows, the sums of runs,
- * alterations, two scans and stacks among them: for these a sheet by columns is turned first. The data has one order,
- * whatever the layout.
+ * alterations, two scans, stacks and putting back among them: for these a sheet by columns is turned first. The data
+ * has one order, whatever the layout.
  *
  * The machine. libsheet.a is for x86-64 Linux, 64-bit: the C calling convention of System V, and a size_t of 8 bytes,
  * which is checked below. Of the C library it needs memcpy and memset, and nothing else.
@@ -74,7 +76,7 @@ enum {
     SHEET_HOUSE_PLAN_BYTES = 14684,   /* the house plan: the length that sheet_house_plan asks for */
     SHEET_SUMS_BYTES = 8,             /* the two sums of a run: the length that sheet_sums asks for */
     SHEET_STACK_SHEETS = 64,          /* the most sheets of a stack */
-    SHEET_STACK_NUMBERS = 16          /* bytes of the numbers of one sheet of a stack: eight of 16 bits */
+    SHEET_STACK_NUMBERS = 18          /* bytes of the numbers of one sheet of a stack: nine of 16 bits */
 };
 
 /* Bytes of a thread's stack that are enough for a call. */
@@ -88,7 +90,8 @@ enum {
     SHEET_DIFFERENCE_STACK = 65536,   /* sheet_first_difference */
     SHEET_READ_STACK_STACK = 65536,   /* sheet_read_stack */
     SHEET_BY_COLUMN_STACK = 65536,    /* sheet_write_by_column, and sheet_read_by_column */
-    SHEET_TURN_STACK = 65536          /* sheet_to_columns, and sheet_to_rows */
+    SHEET_TURN_STACK = 65536,         /* sheet_to_columns, and sheet_to_rows */
+    SHEET_PUT_BACK_STACK = 65536      /* sheet_put_back */
 };
 
 /* The numbers of an answer, and what its places p and q tell. 13 and 14 are told of each sheet of a stack by itself. */
@@ -116,6 +119,7 @@ enum {
     SHEET_DATA_DIFFER = 19,   /* both scans can be mended, and their data differ; 0, 0 */
     SHEET_STACK_FORM = 20,    /* the header of a stack, or its length, breaks the rules; 0, 0 */
     SHEET_NUMBERS_LENGTH = 21, /* the buffer of a stack's numbers has another length; 0, 0 */
+    SHEET_NOT_A_BURST = 22,   /* the answer to put back is not that of a burst of the plan; 0, 0 */
     SHEET_SUMS_LENGTH = 24    /* the buffer of the sums has another length; 0, 0 */
 };
 
@@ -154,7 +158,8 @@ uint64_t sheet_write(const uint8_t *plan, size_t plan_len, const uint8_t *data, 
 
 /*
  * Reads a sheet: checks 1 to 14, then mends the sheet in place and writes every byte of its data, whatever that held.
- * The answer tells how many cells were turned over and the smallest rectangle that holds them: five zeros if none were.
+ * The answer tells how many cells were turned over, the smallest rectangle that holds them, and which cells of that
+ * they are, as a pattern: six zeros if none were. sheet_put_back turns them over again.
  * SHEET_NOT_MENDABLE is given exactly where no single burst, the empty one included, brings both sums to 0.
  */
 uint64_t sheet_read(const uint8_t *plan, size_t plan_len, uint8_t *sheet, size_t sheet_len, uint8_t *data,
@@ -214,9 +219,9 @@ uint64_t sheet_first_difference(const uint8_t *plan, size_t plan_len, const uint
  * in that order without gaps: sheet i begins at sheet_stack_offset, and stack_len is sheet_stack_bytes. Any other
  * header or length is turned back with 20. sheet_stack_header writes a good header. Leaves plan and header alone.
  * numbers_len is count times SHEET_STACK_NUMBERS, data_len count times sheet_plan_data_bytes; each sheet has its place
- * in both, in the order of the header. The numbers of a sheet are eight of 16 bits, low byte first: that of its
- * refusal, or 0; p and q; and the cells, top, left, height and width that sheet_read tells. All are written, whatever
- * they held: five zeros after a refusal. sheet_stack_answer makes one answer of them.
+ * in both, in the order of the header. The numbers of a sheet are nine of 16 bits, low byte first: that of its refusal,
+ * or 0; p and q; and the cells, top, left, height, width and pattern that sheet_read tells. All are written, whatever
+ * they held: six zeros after a refusal. sheet_stack_answer makes one answer of them.
  * A refused sheet keeps its bytes, and the data buffer what it held at that sheet's place. The call's own answer has a
  * number and two places alone: SHEET_OK, whatever became of the sheets, unless the whole stack is turned back; then no
  * byte changes. A stack of no sheets is taken: two bytes, both 0, with numbers and data of length 0.
@@ -272,15 +277,44 @@ uint64_t sheet_to_rows(const uint8_t *plan, size_t plan_len, const uint8_t *sour
 uint64_t sheet_read_by_trial(const uint8_t *plan, size_t plan_len, uint8_t *sheet, size_t sheet_len, uint8_t *data,
                              size_t data_len);
 
-/* An answer taken apart (docs/ANSWER.md). */
+/*
+ * Puts a burst back, for the film as it was scanned: checks 1 to 11, 13 and 22, then turns over exactly the cells that
+ * the answer of a read tells, and no other. Leaves plan alone. sheet_len is sheet_plan_sheet_bytes. From the sheet that
+ * sheet_read left and its answer, every byte of the scan is restored; and the same answer put back twice is nothing.
+ * answer may be any number. It is taken exactly if all its 64 bits are those that sheet_read answers for some burst of
+ * the plan: 0, the empty one, changes nothing. Any other is turned back with SHEET_NOT_A_BURST: a refusal; a rectangle
+ * that is larger than b1 by b2, leaves the sheet or is not the smallest for its pattern; a pattern with a bit beyond
+ * the rectangle, or with another number of cells than is told; no cells, but some other field; or any other bit that is
+ * 1. The answer may also be one of sheet_read_by_trial, of sheet_stack_answer, or of sheet_read_by_column, whose sheet
+ * is turned by rows first. The sheet need not be the one that was read, nor belong to its plan, and nothing is mended.
+ * The call's own answer has a number and two places alone.
+ */
+uint64_t sheet_put_back(const uint8_t *plan, size_t plan_len, uint8_t *sheet, size_t sheet_len, uint64_t answer);
+
+/*
+ * An answer taken apart (docs/ANSWER.md). The places and the six numbers of a read share bits: p and q are 0 where the
+ * number is 0, and the six where it is not.
+ */
 static inline unsigned sheet_answer_number(uint64_t answer) { return (unsigned)(answer & 31u); }
-static inline unsigned sheet_answer_p(uint64_t answer) { return (unsigned)((answer >> 5) & 65535u); }
-static inline unsigned sheet_answer_q(uint64_t answer) { return (unsigned)((answer >> 21) & 4095u); }
-static inline unsigned sheet_answer_cells(uint64_t answer) { return (unsigned)((answer >> 33) & 31u); }
-static inline unsigned sheet_answer_top(uint64_t answer) { return (unsigned)((answer >> 38) & 511u); }
-static inline unsigned sheet_answer_left(uint64_t answer) { return (unsigned)((answer >> 47) & 1023u); }
-static inline unsigned sheet_answer_height(uint64_t answer) { return (unsigned)((answer >> 57) & 7u); }
-static inline unsigned sheet_answer_width(uint64_t answer) { return (unsigned)((answer >> 60) & 7u); }
+
+/* So many bits of an answer from one on, if its number is 0, as that of a read that mended; else 0. */
+static inline unsigned sheet_answer_of_read(uint64_t answer, unsigned from, unsigned bits) {
+    return sheet_answer_number(answer) == SHEET_OK ? (unsigned)(answer >> from & ((1u << bits) - 1)) : 0;
+}
+
+/* The same if its number is not 0, as that of a refusal. */
+static inline unsigned sheet_answer_of_refusal(uint64_t answer, unsigned from, unsigned bits) {
+    return sheet_answer_number(answer) == SHEET_OK ? 0 : (unsigned)(answer >> from & ((1u << bits) - 1));
+}
+
+static inline unsigned sheet_answer_p(uint64_t answer) { return sheet_answer_of_refusal(answer, 5, 16); }
+static inline unsigned sheet_answer_q(uint64_t answer) { return sheet_answer_of_refusal(answer, 21, 12); }
+static inline unsigned sheet_answer_cells(uint64_t answer) { return sheet_answer_of_read(answer, 5, 5); }
+static inline unsigned sheet_answer_top(uint64_t answer) { return sheet_answer_of_read(answer, 10, 9); }
+static inline unsigned sheet_answer_left(uint64_t answer) { return sheet_answer_of_read(answer, 19, 10); }
+static inline unsigned sheet_answer_height(uint64_t answer) { return sheet_answer_of_read(answer, 29, 3); }
+static inline unsigned sheet_answer_width(uint64_t answer) { return sheet_answer_of_read(answer, 32, 3); }
+static inline unsigned sheet_answer_pattern(uint64_t answer) { return sheet_answer_of_read(answer, 35, 16); }
 
 /* The 8 bytes of the sums taken apart: the V sum and the H sum. */
 static inline uint32_t sheet_sums_v(const uint8_t *sums) {
@@ -385,10 +419,10 @@ static inline void sheet_stack_header(const uint8_t *plan, size_t plan_len, cons
  * numbers is the buffer of the whole stack, as sheet_read_stack left it. Of any other bytes some answer is made.
  */
 static inline uint64_t sheet_stack_answer(const uint8_t *numbers, size_t sheet) {
-    static const unsigned shifts[8] = {0, 5, 21, 33, 38, 47, 57, 60};
+    static const unsigned shifts[9] = {0, 5, 21, 5, 10, 19, 29, 32, 35};
     const uint8_t *of = numbers + SHEET_STACK_NUMBERS * sheet;
     uint64_t answer = 0;
-    for (size_t at = 0; at < 8; at++) answer |= (of[2 * at] | (uint64_t)of[2 * at + 1] << 8) << shifts[at];
+    for (size_t at = 0; at < 9; at++) answer |= (of[2 * at] | (uint64_t)of[2 * at + 1] << 8) << shifts[at];
     return answer;
 }
 

@@ -87,12 +87,12 @@ static void by_hand(void) {
     written_as(TALL, "\x00\x10", 2, "\x02\x00\x00\x00\x00\x00\x00\x01\x02", 9, "\x80\x00\x01\x01", 4);
 
     read_as(S, "\x03\x03\x00", 3, SHEET_OK, "\x03\x03\x00", "\x02", 1);
-    read_as(S, "\x07\x03\x00", 3, mended(1, 2, 0, 1, 1), "\x03\x03\x00", "\x02", 1);
+    read_as(S, "\x07\x03\x00", 3, mended(1, 2, 0, 1, 1, 1), "\x03\x03\x00", "\x02", 1);
     read_as(S, "\x01\x01\x00", 3, SHEET_NOT_MENDABLE, "", "", 1);
-    read_as(T, "\x03\x01\x02\x00", 4, mended(2, 0, 1, 1, 2), "\x03\x00\x03\x00", "\x02", 1);
+    read_as(T, "\x03\x01\x02\x00", 4, mended(2, 0, 1, 1, 2, 3), "\x03\x00\x03\x00", "\x02", 1);
     read_as(T, "\x02\x00\x03\x01", 4, SHEET_NOT_MENDABLE, "", "", 1);
-    read_as(TALL, "\x00\x01\x00\x00", 4, mended(1, 8, 0, 1, 1), "\x00\x00\x00\x00", "\x00\x00", 2);
-    read_as(TALL, "\x80\x00\x01\x00", 4, mended(1, 8, 1, 1, 1), "\x80\x00\x01\x01", "\x00\x10", 2);
+    read_as(TALL, "\x00\x01\x00\x00", 4, mended(1, 8, 0, 1, 1, 1), "\x00\x00\x00\x00", "\x00\x00", 2);
+    read_as(TALL, "\x80\x00\x01\x00", 4, mended(1, 8, 1, 1, 1, 1), "\x80\x00\x01\x01", "\x00\x10", 2);
     read_as(TALL, "\x01\x00\x01\x00", 4, SHEET_NOT_MENDABLE, "", "", 2);
 }
 
@@ -267,7 +267,7 @@ static void house(void) {
     expect("clean", read_alike(plan, plan_len, rows) == SHEET_OK);
     turn(rows, 511, 697);
     turn(rows, 509, 695);
-    expect("the last corner", read_alike(plan, plan_len, rows) == mended(2, 509, 695, 3, 3));
+    expect("the last corner", read_alike(plan, plan_len, rows) == mended(2, 509, 695, 3, 3, 0x101));
     turn(rows, 0, 0);
     expect("two corners", read_alike(plan, plan_len, rows) == SHEET_NOT_MENDABLE);
     rows[88 + 87] |= 4;

@@ -89,15 +89,15 @@ int main(void) {
     expect("difference, no second", is_empty(sheet_scans_differ(plan_n, n, scan, 1, NULL, 0), NULL));
     expect("the scans are left alone", sheet[0] == 0 && sheet[1] == 0xaa && scan[0] == 1 && scan[2] == 0);
 
-    expect("stack, no plan", answers(sheet_read_stack(NULL, 0, stack, 9, numbers, 16, NULL, 0), SHEET_PLAN_SHORT));
+    expect("stack, no plan", answers(sheet_read_stack(NULL, 0, stack, 9, numbers, 18, NULL, 0), SHEET_PLAN_SHORT));
     expect("stack, nothing", answers(sheet_read_stack(NULL, 0, NULL, 0, NULL, 0, NULL, 0), SHEET_PLAN_SHORT));
     expect("stack, plan alone", answers(sheet_read_stack(plan_n, n, NULL, 0, NULL, 0, NULL, 0), SHEET_STACK_FORM));
-    expect("stack, no stack", answers(sheet_read_stack(plan_n, n, NULL, 0, numbers, 16, NULL, 0), SHEET_STACK_FORM));
+    expect("stack, no stack", answers(sheet_read_stack(plan_n, n, NULL, 0, numbers, 18, NULL, 0), SHEET_STACK_FORM));
     expect("stack, no numbers", answers(sheet_read_stack(plan_n, n, stack, 9, NULL, 0, NULL, 0), SHEET_NUMBERS_LENGTH));
     expect("stack, no sheets", answers(sheet_read_stack(plan_n, n, no_sheets, 2, NULL, 0, NULL, 0), SHEET_OK));
     expect("stack, no sheets of S", answers(sheet_read_stack(plan_s, s, no_sheets, 2, NULL, 0, NULL, 0), SHEET_OK));
     expect("a refusal leaves the stack", stack[8] == 2 && numbers[0] == 0xaa && numbers[1] == 0);
-    expect("stack, k = 0", answers(sheet_read_stack(plan_n, n, stack, 9, numbers, 16, NULL, 0), SHEET_OK));
+    expect("stack, k = 0", answers(sheet_read_stack(plan_n, n, stack, 9, numbers, 18, NULL, 0), SHEET_OK));
     expect("its sheet is mended", stack[8] == 0 && sheet_answer_cells(sheet_stack_answer(numbers, 0)) == 1);
     expect("a header of no sheets", sheet_stack_bytes(NULL, 0, 0) == 2);
     sheet_stack_header(NULL, 0, NULL, 0, no_sheets);
@@ -128,6 +128,14 @@ int main(void) {
     sheet[0] = 2;
     answer = sheet_read_by_trial(plan_n, n, sheet, 1, NULL, 0);
     expect("trial, k = 0", sheet_answer_cells(answer) == 1 && sheet_answer_left(answer) == 1 && sheet[0] == 0);
+
+    expect("put back, no plan", answers(sheet_put_back(NULL, 0, sheet, 1, answer), SHEET_PLAN_SHORT));
+    expect("put back, nothing", answers(sheet_put_back(NULL, 0, NULL, 0, answer), SHEET_PLAN_SHORT));
+    expect("put back, no sheet", answers(sheet_put_back(plan_s, s, NULL, 0, 0), SHEET_SHEET_LENGTH));
+    expect("put back, neither", answers(sheet_put_back(plan_n, n, NULL, 0, 1), SHEET_SHEET_LENGTH));
+    expect("a refusal puts nothing back", sheet[0] == 0 && sheet[1] == 0xaa);
+    expect("put back, k = 0", answers(sheet_put_back(plan_n, n, sheet, 1, answer), SHEET_OK) && sheet[0] == 2);
+    expect("put back twice", answers(sheet_put_back(plan_n, n, sheet, 1, answer), SHEET_OK) && sheet[0] == 0);
 
     expect("turned, no plan", answers(sheet_to_columns(NULL, 0, sheet, 1, scan, 2), SHEET_PLAN_SHORT) &&
                                   answers(sheet_to_rows(NULL, 0, scan, 2, sheet, 1), SHEET_PLAN_SHORT));

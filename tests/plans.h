@@ -36,10 +36,11 @@ typedef struct {
 
 static inline uint64_t told(refusal r) { return r.number | (uint64_t)r.p << 5 | (uint64_t)r.q << 21; }
 
-/* The answer of a read that turned over so many cells, of this smallest rectangle. */
-static inline uint64_t mended(unsigned cells, unsigned top, unsigned left, unsigned height, unsigned width) {
-    return (uint64_t)cells << 33 | (uint64_t)top << 38 | (uint64_t)left << 47 | (uint64_t)height << 57 |
-           (uint64_t)width << 60;
+/* The answer of a read that turned over so many cells, of this smallest rectangle and with this pattern in it. */
+static inline uint64_t mended(unsigned cells, unsigned top, unsigned left, unsigned height, unsigned width,
+                              unsigned pattern) {
+    return (uint64_t)cells << 5 | (uint64_t)top << 10 | (uint64_t)left << 19 | (uint64_t)height << 29 |
+           (uint64_t)width << 32 | (uint64_t)pattern << 35;
 }
 
 /* S as it is turned back by each check of a plan, in a buffer of its own, with what is told. */

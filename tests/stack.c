@@ -50,9 +50,9 @@ static void by_hand_s(void) {
     static const uint8_t after[] = {3, 0, 0, 0, 20, 0, 0, 0, 1, 0, 23, 0, 0, 0, 1,
                                     0, 26, 0, 0, 0, 3, 3, 0, 3, 0, 0, 3, 0x83, 0x40};
     static const uint8_t numbers[3 * SHEET_STACK_NUMBERS] = {
-        0,  0, 0, 0, 0, 0, 1, 0, 2, 0, 0, 0, 1, 0, 1, 0, /* one cell, at row 2, column 0 */
-        14, 0, 0, 0, 0, 0, 0, 0, 0, 0, 0, 0, 0, 0, 0, 0, /* not mendable */
-        13, 0, 1, 0, 0, 0, 0, 0, 0, 0, 0, 0, 0, 0, 0, 0, /* an unused bit, in byte 1 of that sheet */
+        0,  0, 0, 0, 0, 0, 1, 0, 2, 0, 0, 0, 1, 0, 1, 0, 1, 0, /* one cell, at row 2, column 0 */
+        14, 0, 0, 0, 0, 0, 0, 0, 0, 0, 0, 0, 0, 0, 0, 0, 0, 0, /* not mendable */
+        13, 0, 1, 0, 0, 0, 0, 0, 0, 0, 0, 0, 0, 0, 0, 0, 0, 0, /* an unused bit, in byte 1 of that sheet */
     };
     stack s = built(plan_s, sizeof plan_s, rooms, 3, sheets);
     expect("the length of a stack of S", s.bytes_len == sizeof after);
@@ -70,7 +70,7 @@ static void by_hand_s(void) {
 static void by_hand_t(void) {
     static const uint8_t rooms[] = {1, 0}, sheets[] = {3, 5, 10, 10};
     static const uint8_t after[] = {2, 0, 1, 0, 14, 0, 0, 0, 0, 0, 16, 0, 0, 0, 5, 5, 10, 10};
-    static const uint8_t numbers[2 * SHEET_STACK_NUMBERS] = {0, 0, 0, 0, 0, 0, 2, 0, 0, 0, 1, 0, 1, 0, 2, 0};
+    static const uint8_t numbers[2 * SHEET_STACK_NUMBERS] = {0, 0, 0, 0, 0, 0, 2, 0, 0, 0, 1, 0, 1, 0, 2, 0, 3, 0};
     stack s = built(plan_t, sizeof plan_t, rooms, 2, sheets);
     expect("a stack of T", s.bytes_len == sizeof after && read_stack(s) == SHEET_OK);
     expect("its sheets", same(s.bytes, after, sizeof after));
@@ -133,8 +133,8 @@ static const uint8_t two[] = {2, 0, 0, 0, 14, 0, 0, 0, 1, 0, 17, 0, 0, 0, 3, 3, 
 
 /* A plan is turned back whatever else is wrong: the header, both lengths. */
 static void plan_turned_back(const uint8_t *plan, size_t plan_len, refusal r) {
-    turned_back(plan, plan_len, two, sizeof two, 32, 2, r);
-    turned_back(plan, plan_len, two, sizeof two - 1, 31, 3, r);
+    turned_back(plan, plan_len, two, sizeof two, 36, 2, r);
+    turned_back(plan, plan_len, two, sizeof two - 1, 35, 3, r);
     turned_back(plan, plan_len, "", 0, 0, 0, r);
     turned_back(plan, plan_len, "\0\0", 2, 0, 0, r);
 }
@@ -147,8 +147,8 @@ static void altered(size_t at, uint8_t byte) {
     uint8_t bytes[sizeof two];
     memcpy(bytes, two, sizeof two);
     bytes[at] = byte;
-    turned_back(plan_s, sizeof plan_s, bytes, sizeof two, 32, 2, form);
-    turned_back(plan_s, sizeof plan_s, bytes, sizeof two, 16, 1, form);
+    turned_back(plan_s, sizeof plan_s, bytes, sizeof two, 36, 2, form);
+    turned_back(plan_s, sizeof plan_s, bytes, sizeof two, 18, 1, form);
 }
 
 /* Offsets exchanged; every other byte of the header, but a room that is the other; lengths; then 20, 21 and 12. */
@@ -156,25 +156,26 @@ static void refused_stacks(void) {
     static const uint8_t exchanged[] = {2, 0, 0, 0, 17, 0, 0, 0, 1, 0, 14, 0, 0, 0, 3, 3, 1, 5, 5, 4};
     static uint8_t longer[sizeof two + 65536];
     size_t len = sizeof plan_s;
-    turned_back(plan_s, len, exchanged, sizeof exchanged, 32, 2, form);
+    turned_back(plan_s, len, exchanged, sizeof exchanged, 36, 2, form);
     for (size_t at = 0; at < 14; at++)
         for (unsigned byte = 0; byte < 256; byte++)
             if (byte != two[at] && (byte > 1 || (at != 2 && at != 8))) altered(at, (uint8_t)byte);
     memcpy(longer, two, sizeof two);
     for (size_t cut = 0; cut < sizeof two; cut++) {
-        turned_back(plan_s, len, two, cut, 32, 2, form);
-        turned_back(plan_s, len, two, cut, 16, 1, form);
+        turned_back(plan_s, len, two, cut, 36, 2, form);
+        turned_back(plan_s, len, two, cut, 18, 1, form);
     }
-    for (size_t more = 1; more <= 4; more++) turned_back(plan_s, len, longer, sizeof two + more, 32, 2, form);
-    turned_back(plan_s, len, longer, sizeof longer, 32, 2, form);
-    turned_back(plan_s, len, two, sizeof two - 1, 31, 3, form);
-    turned_back(plan_s, len, two, sizeof two, 31, 2, of_numbers);
-    turned_back(plan_s, len, two, sizeof two, 33, 3, of_numbers);
+    for (size_t more = 1; more <= 4; more++) turned_back(plan_s, len, longer, sizeof two + more, 36, 2, form);
+    turned_back(plan_s, len, longer, sizeof longer, 36, 2, form);
+    turned_back(plan_s, len, two, sizeof two - 1, 35, 3, form);
+    turned_back(plan_s, len, two, sizeof two, 35, 2, of_numbers);
+    turned_back(plan_s, len, two, sizeof two, 37, 3, of_numbers);
     turned_back(plan_s, len, two, sizeof two, 0, 0, of_numbers);
-    turned_back(plan_s, len, two, sizeof two, 16, 1, of_numbers);
-    turned_back(plan_s, len, two, sizeof two, 32, 1, of_data);
-    turned_back(plan_s, len, two, sizeof two, 32, 3, of_data);
-    turned_back(plan_s, len, two, sizeof two, 32, 0, of_data);
+    turned_back(plan_s, len, two, sizeof two, 18, 1, of_numbers);
+    turned_back(plan_s, len, two, sizeof two, 32, 2, of_numbers);
+    turned_back(plan_s, len, two, sizeof two, 36, 1, of_data);
+    turned_back(plan_s, len, two, sizeof two, 36, 3, of_data);
+    turned_back(plan_s, len, two, sizeof two, 36, 0, of_data);
 }
 
 /* The other room is a good one too. */
@@ -194,7 +195,7 @@ static void counts(void) {
     expect("no sheets", none.bytes_len == 2 && none.bytes[0] == 0 && none.bytes[1] == 0);
     expect("no sheets are read", read_stack(none) == SHEET_OK && none.bytes[0] == 0 && none.bytes[1] == 0);
     end(none);
-    turned_back(plan_s, sizeof plan_s, "\0\0", 2, 16, 1, of_numbers);
+    turned_back(plan_s, sizeof plan_s, "\0\0", 2, 18, 1, of_numbers);
     turned_back(plan_s, sizeof plan_s, "\0\0", 2, 0, 1, of_data);
     turned_back(plan_s, sizeof plan_s, "\0\0\0", 3, 0, 0, form);
     turned_back(plan_s, sizeof plan_s, "\1\0\0\0\10\0\0\0", 8, 0, 0, form); /* a header, and no sheet behind it */
@@ -214,12 +215,13 @@ static void counts(void) {
 static void by_themselves(void) {
     static const uint8_t rooms[] = {1, 0, 255}, large[SHEET_PLAN_HEADER_BYTES] = {0, 2, 0xba, 2};
     static const uint8_t header[] = {3, 0, 1, 0, 20, 0, 0, 0, 0, 0, 0x14, 0xb0, 0, 0, 255, 0, 0x14, 0x60, 1, 0, 0xaa};
-    static const uint8_t numbers[2 * SHEET_STACK_NUMBERS] = {
-        0,  0, 0,    0,    0,    0,    0,  0, 0, 0, 0,    0, 0, 0, 0, 0,
-        14, 0, 0xfe, 0xaf, 0xfd, 0x0a, 16, 0, 3, 1, 0xb9, 2, 3, 0, 4, 0,
+    static const uint8_t numbers[3 * SHEET_STACK_NUMBERS] = {
+        0,  0, 0,    0,    0,    0,    0,  0, 0, 0, 0,    0, 0, 0, 0, 0, 0,    0,
+        14, 0, 0xfe, 0xaf, 0xfd, 0x0a, 0,  0, 0, 0, 0,    0, 0, 0, 0, 0, 0,    0,
+        0,  0, 0,    0,    0,    0,    16, 0, 3, 1, 0xb9, 2, 3, 0, 4, 0, 0xfe, 0xca,
     };
     uint8_t bytes[sizeof header], none[4];
-    uint64_t answer = sheet_stack_answer(numbers, 1);
+    uint64_t refused = sheet_stack_answer(numbers, 1), answer = sheet_stack_answer(numbers, 2);
     expect("offsets of S", sheet_stack_offset(plan_s, sizeof plan_s, 4, 0) == 26 &&
                                sheet_stack_offset(plan_s, sizeof plan_s, 4, 3) == 35);
     expect("offsets at full size", sheet_stack_offset(large, sizeof large, 64, 63) == 386 + 63 * 45056);
@@ -233,12 +235,14 @@ static void by_themselves(void) {
     mark(none, sizeof none);
     sheet_stack_header(NULL, 0, NULL, 0, none);
     expect("a header of no sheets", none[0] == 0 && none[1] == 0 && marked(none + 2, 2));
-    expect("number, p and q of a sheet", sheet_answer_number(answer) == 14 && sheet_answer_p(answer) == 0xaffe &&
-                                             sheet_answer_q(answer) == 0xafd);
+    expect("number, p and q of a sheet", sheet_answer_number(refused) == 14 && sheet_answer_p(refused) == 0xaffe &&
+                                             sheet_answer_q(refused) == 0xafd && refused >> 33 == 0);
     expect("cells, top and left", sheet_answer_cells(answer) == 16 && sheet_answer_top(answer) == 259 &&
                                       sheet_answer_left(answer) == 697);
-    expect("height and width", sheet_answer_height(answer) == 3 && sheet_answer_width(answer) == 4 &&
-                                   answer >> 63 == 0);
+    expect("height, width and pattern", sheet_answer_height(answer) == 3 && sheet_answer_width(answer) == 4 &&
+                                            sheet_answer_pattern(answer) == 0xcafe && answer >> 51 == 0);
+    expect("no number and no places", sheet_answer_number(answer) == 0 && sheet_answer_p(answer) == 0 &&
+                                          sheet_answer_q(answer) == 0);
     expect("the sheet before", sheet_stack_answer(numbers, 0) == 0);
 }
 
@@ -277,7 +281,8 @@ static void house(void) {
     expect("unused bits", sheet_stack_answer(s.numbers, 3) == (SHEET_UNUSED_BIT | UINT64_C(45055) << 5));
     expect("a burst", sheet_answer_cells(sheet_stack_answer(s.numbers, 1)) == 2 &&
                           sheet_answer_top(sheet_stack_answer(s.numbers, 1)) == 509 &&
-                          sheet_answer_left(sheet_stack_answer(s.numbers, 1)) == 695);
+                          sheet_answer_left(sheet_stack_answer(s.numbers, 1)) == 695 &&
+                          sheet_answer_pattern(sheet_stack_answer(s.numbers, 1)) == 0x101);
     end(s);
     as_if_alone(plan, plan_len, rooms, SHEETS, sheets);
     free(data);

@@ -27,16 +27,16 @@ static void read_as(const char *what, const uint8_t *plan, size_t plan_len, cons
 static void by_hand(void) {
     const uint8_t *s = plan_s, *t = plan_t;
     size_t s_len = sizeof plan_s, t_len = sizeof plan_t;
-    read_as("case 3", s, s_len, "\x03\x03\x01", 3, mended(1, 2, 0, 1, 1), "\x03\x03\x00", "\x02", 1);
+    read_as("case 3", s, s_len, "\x03\x03\x01", 3, mended(1, 2, 0, 1, 1, 1), "\x03\x03\x00", "\x02", 1);
     read_as("case 4", s, s_len, "\x03\x00\x00", 3, SHEET_NOT_MENDABLE, "", "", 1);
     read_as("case 4 again", s, s_len, "\x06\x01\x00", 3, SHEET_NOT_MENDABLE, "", "", 1);
-    read_as("case 6", t, t_len, "\x03\x05", 2, mended(2, 0, 1, 1, 2), "\x05\x05", "\x02", 1);
+    read_as("case 6", t, t_len, "\x03\x05", 2, mended(2, 0, 1, 1, 2, 3), "\x05\x05", "\x02", 1);
     read_as("case 7", t, t_len, "\x0c\x05", 2, SHEET_NOT_MENDABLE, "", "", 1);
     read_as("case 7 again", t, t_len, "\x01\x01", 2, SHEET_NOT_MENDABLE, "", "", 1);
     read_as("S, clean", s, s_len, "\x03\x03\x00", 3, SHEET_OK, "\x03\x03\x00", "\x02", 1);
     read_as("T, clean", t, t_len, "\x05\x05", 2, SHEET_OK, "\x05\x05", "\x02", 1);
-    read_as("S, the last cell", s, s_len, "\x03\x03\x04", 3, mended(1, 2, 2, 1, 1), "\x03\x03\x00", "\x02", 1);
-    read_as("T, the last cell", t, t_len, "\x05\x0d", 2, mended(1, 1, 3, 1, 1), "\x05\x05", "\x02", 1);
+    read_as("S, the last cell", s, s_len, "\x03\x03\x04", 3, mended(1, 2, 2, 1, 1, 1), "\x03\x03\x00", "\x02", 1);
+    read_as("T, the last cell", t, t_len, "\x05\x0d", 2, mended(1, 1, 3, 1, 1, 1), "\x05\x05", "\x02", 1);
 }
 
 /* A sheet is read by trial as sheet_read reads it: the answer, the sheet and the data, of which nothing was written. */
@@ -126,14 +126,14 @@ static void eight_by_eight(void) {
     read_as("clean", plan, plan_len, sheet, 8, SHEET_OK, sheet, data, data_len);
     memcpy(scan, sheet, 8);
     for (size_t row = 0; row < 3; row++) scan[row] ^= 7;
-    read_as("the first rectangle", plan, plan_len, scan, 8, mended(9, 0, 0, 3, 3), sheet, data, data_len);
+    read_as("the first rectangle", plan, plan_len, scan, 8, mended(9, 0, 0, 3, 3, 0x1ff), sheet, data, data_len);
     memcpy(scan, sheet, 8);
     scan[3] ^= 0x08;
     scan[4] ^= 0x10;
-    read_as("two cells inside", plan, plan_len, scan, 8, mended(2, 3, 3, 2, 2), sheet, data, data_len);
+    read_as("two cells inside", plan, plan_len, scan, 8, mended(2, 3, 3, 2, 2, 9), sheet, data, data_len);
     memcpy(scan, sheet, 8);
     for (size_t row = 5; row < 8; row++) scan[row] ^= 0xe0;
-    read_as("the last rectangle", plan, plan_len, scan, 8, mended(9, 5, 5, 3, 3), sheet, data, data_len);
+    read_as("the last rectangle", plan, plan_len, scan, 8, mended(9, 5, 5, 3, 3, 0x1ff), sheet, data, data_len);
     scan[0] ^= 1;
     read_as("and the first cell", plan, plan_len, scan, 8, SHEET_NOT_MENDABLE, "", "", data_len);
     free(data);
@@ -151,7 +151,7 @@ static void house(void) {
     expect("clean", read_alike(plan, plan_len, sheet) == SHEET_OK);
     turn(sheet, 0, 1);
     turn(sheet, 2, 2);
-    expect("the first rectangle", read_alike(plan, plan_len, sheet) == mended(2, 0, 1, 3, 2));
+    expect("the first rectangle", read_alike(plan, plan_len, sheet) == mended(2, 0, 1, 3, 2, 0x21));
     free(sheet);
     free(plan);
 }

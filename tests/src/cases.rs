@@ -137,15 +137,15 @@ pub fn write_cases() -> Vec<WriteCase> {
     ]
 }
 
-/// A plan, a sheet, and what is read: the five numbers, the mended sheet and the data; or 14.
-pub type ReadCase = (Plan, Vec<u8>, Option<([u64; 5], Vec<u8>, Vec<u8>)>);
+/// A plan, a sheet, and what is read: the six numbers, the mended sheet and the data; or 14.
+pub type ReadCase = (Plan, Vec<u8>, Option<([u64; 6], Vec<u8>, Vec<u8>)>);
 
-/// Cases 3, 4, 6 and 7. The five numbers and the data of case 6 are told in case 12.
+/// Cases 3, 4, 6 and 7. The six numbers and the data of case 6 are told in case 12.
 pub fn read_cases() -> Vec<ReadCase> {
     let s = |sheet: [u8; 3], read| (plan_s(), sheet.to_vec(), read);
     let t = |sheet: [u8; 2], read| (plan_t(), sheet.to_vec(), read);
-    let case3 = ([1, 2, 0, 1, 1], vec![0x03, 0x03, 0x00], vec![0x02]);
-    let case6 = ([2, 0, 1, 1, 2], vec![0x05, 0x05], vec![0x02]);
+    let case3 = ([1, 2, 0, 1, 1, 1], vec![0x03, 0x03, 0x00], vec![0x02]);
+    let case6 = ([2, 0, 1, 1, 2, 3], vec![0x05, 0x05], vec![0x02]);
     vec![
         s([0x03, 0x03, 0x01], Some(case3)),
         s([0x03, 0x00, 0x00], None),
@@ -298,14 +298,14 @@ pub type StackCase = (Plan, [Vec<u8>; 3], [Vec<u8>; 3]);
 
 /// Worked out by hand from cases 3 to 7, `alter_cases` and the header's rule. 0xbb is what a buffer held.
 pub fn stack_cases() -> Vec<StackCase> {
-    let case = |plan: Plan, [stack, after]: [&[u8]; 2], numbers: &[[u8; 16]], data: &[u8]| {
-        let held = [stack.to_vec(), vec![0xbb; 16 * numbers.len()], vec![0xbb; data.len()]];
+    let case = |plan: Plan, [stack, after]: [&[u8]; 2], numbers: &[[u8; 18]], data: &[u8]| {
+        let held = [stack.to_vec(), vec![0xbb; 18 * numbers.len()], vec![0xbb; data.len()]];
         (plan, held, [after.to_vec(), numbers.concat(), data.to_vec()])
     };
-    let refused = |number, p| [number, 0, p, 0, 0, 0, 0, 0, 0, 0, 0, 0, 0, 0, 0, 0];
+    let refused = |number, p| [number, 0, p, 0, 0, 0, 0, 0, 0, 0, 0, 0, 0, 0, 0, 0, 0, 0];
     let clean = refused(0, 0);
-    let mended = |cells, top, left, height, width| {
-        [0, 0, 0, 0, 0, 0, cells, 0, top, 0, left, 0, height, 0, width, 0]
+    let mended = |[cells, top, left, height, width, pattern]: [u8; 6]| {
+        [0, 0, 0, 0, 0, 0, cells, 0, top, 0, left, 0, height, 0, width, 0, pattern, 0]
     };
     vec![
         // No sheets: the count alone.
@@ -314,7 +314,7 @@ pub fn stack_cases() -> Vec<StackCase> {
         case(
             plan_t(),
             [&[1, 0, 1, 0, 8, 0, 0, 0, 0x03, 0x05], &[1, 0, 1, 0, 8, 0, 0, 0, 0x05, 0x05]],
-            &[mended(2, 0, 1, 1, 2)],
+            &[mended([2, 0, 1, 1, 2, 3])],
             &[0x02],
         ),
         // Case 4: nothing mends it, and the place of its data stays.
@@ -326,7 +326,7 @@ pub fn stack_cases() -> Vec<StackCase> {
                 &[2, 0, 0, 0, 14, 0, 0, 0, 1, 0, 17, 0, 0, 0, 0x03, 0x03, 0x01, 0x03, 0x00, 0x00],
                 &[2, 0, 0, 0, 14, 0, 0, 0, 1, 0, 17, 0, 0, 0, 0x03, 0x03, 0x00, 0x03, 0x00, 0x00],
             ],
-            &[mended(1, 2, 0, 1, 1), refused(14, 0)],
+            &[mended([1, 2, 0, 1, 1, 1]), refused(14, 0)],
             &[0x02, 0xbb],
         ),
         // An unused bit in row 1 of the first, and the second is written from data 01 but for (2, 2).
@@ -336,7 +336,7 @@ pub fn stack_cases() -> Vec<StackCase> {
                 &[2, 0, 1, 0, 14, 0, 0, 0, 1, 0, 17, 0, 0, 0, 0x03, 0x83, 0x40, 0x05, 0x05, 0x04],
                 &[2, 0, 1, 0, 14, 0, 0, 0, 1, 0, 17, 0, 0, 0, 0x03, 0x83, 0x40, 0x05, 0x05, 0x00],
             ],
-            &[refused(13, 1), mended(1, 2, 2, 1, 1)],
+            &[refused(13, 1), mended([1, 2, 2, 1, 1, 1])],
             &[0xbb, 0x01],
         ),
         // Under T, in rooms 1, 0 and 1: an unused bit in row 1; 0a 0a as written from data 01; the same with
@@ -353,7 +353,7 @@ pub fn stack_cases() -> Vec<StackCase> {
                     0x0a, 0x0a, 0x0a, 0x0a,
                 ],
             ],
-            &[refused(13, 1), clean, mended(1, 0, 0, 1, 1)],
+            &[refused(13, 1), clean, mended([1, 0, 0, 1, 1, 1])],
             &[0xbb, 0x01, 0x01],
         ),
     ]
@@ -397,33 +397,37 @@ pub fn column_cases() -> Vec<ColumnCase> {
 
 /// Sheets by columns, and what is read: those of cases 3, 4, 6 and 7, and others worked out by hand.
 pub fn column_read_cases() -> Vec<ReadCase> {
-    let case = |plan: Plan, sheet: &[u8], read: Option<([u64; 5], &[u8], &[u8])>| {
+    let case = |plan: Plan, sheet: &[u8], read: Option<([u64; 6], &[u8], &[u8])>| {
         let read = read.map(|(numbers, mended, data)| (numbers, mended.to_vec(), data.to_vec()));
         (plan, sheet.to_vec(), read)
     };
     vec![
-        case(plan_s(), &[0x07, 0x03, 0x00], Some(([1, 2, 0, 1, 1], &[0x03, 0x03, 0x00], &[0x02]))),
+        case(
+            plan_s(),
+            &[0x07, 0x03, 0x00],
+            Some(([1, 2, 0, 1, 1, 1], &[0x03, 0x03, 0x00], &[0x02])),
+        ),
         case(plan_s(), &[0x01, 0x01, 0x00], None),
         case(plan_s(), &[0x02, 0x01, 0x01], None),
         case(
             plan_t(),
             &[0x03, 0x01, 0x02, 0x00],
-            Some(([2, 0, 1, 1, 2], &[0x03, 0x00, 0x03, 0x00], &[0x02])),
+            Some(([2, 0, 1, 1, 2, 3], &[0x03, 0x00, 0x03, 0x00], &[0x02])),
         ),
         case(plan_t(), &[0x02, 0x00, 0x03, 0x01], None),
         case(plan_t(), &[0x03, 0x00, 0x00, 0x00], None),
         // 05 05 is written from data 01: rows 0 and 1 of column 1 turned over.
-        case(plan_two_rows(), &[0x05, 0x06], Some(([2, 0, 1, 2, 1], &[0x05, 0x05], &[0x01]))),
+        case(plan_two_rows(), &[0x05, 0x06], Some(([2, 0, 1, 2, 1, 3], &[0x05, 0x05], &[0x01]))),
         // (8, 0) turned over on the light sheet, and (8, 1) on that of the last data bit.
         case(
             plan_tall(),
             &[0x00, 0x01, 0x00, 0x00],
-            Some(([1, 8, 0, 1, 1], &[0x00, 0x00, 0x00, 0x00], &[0x00, 0x00])),
+            Some(([1, 8, 0, 1, 1, 1], &[0x00, 0x00, 0x00, 0x00], &[0x00, 0x00])),
         ),
         case(
             plan_tall(),
             &[0x80, 0x00, 0x01, 0x00],
-            Some(([1, 8, 1, 1, 1], &[0x80, 0x00, 0x01, 0x01], &[0x00, 0x10])),
+            Some(([1, 8, 1, 1, 1, 1], &[0x80, 0x00, 0x01, 0x01], &[0x00, 0x10])),
         ),
         // Row 0 of both columns: V 1 ^ 1 = 0, H 0 ^ 1 = 1, which no cell has.
         case(plan_tall(), &[0x01, 0x00, 0x01, 0x00], None),

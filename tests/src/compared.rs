@@ -1,5 +1,6 @@
 //! The library beside the model.
 
+mod put;
 mod trial;
 
 use std::ops::Range;

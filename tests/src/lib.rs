@@ -1,11 +1,12 @@
-//! An independent model of the product of document 01 (01-scope.md) and of requests a and c to j of
+//! An independent model of the product of document 01 (01-scope.md) and of requests a and c to k of
 //! document 02 (02-change-requests.md), written from their words alone, and what the tests and timings
 //! of libsheet.a need beside it.
 //!
 //! Words: a row is a course of 01, a column a needle, a burst a blot, a syndrome the two sums of a
 //! sheet, a check cell a cell of the check list, a scan a sheet as one head read it from the film. A stack
 //! is sheets in one buffer, each with a room. A sheet lies in bytes by rows or by columns, and is turned from
-//! one layout into the other.
+//! one layout into the other. A pattern is the cells of a burst in one rectangle, as a number. To put a burst
+//! back is to turn its cells over again.
 
 pub mod answer;
 pub mod cases;
@@ -24,11 +25,13 @@ pub mod model;
 pub mod pairs;
 pub mod plan;
 pub mod positions;
+pub mod puts;
 pub mod refused;
 pub mod rng;
 pub mod runs;
 pub mod scans;
 pub mod stacks;
+pub mod table;
 pub mod tally;
 pub mod trials;
 pub mod yardstick;

@@ -5,6 +5,7 @@ use std::ops::Range;
 
 use crate::answer::Answer;
 use crate::kinds::{sheet_of, KINDS};
+use crate::model::NUMBERS_LEN;
 use crate::plan::Plan;
 use crate::rng::Rng;
 
@@ -47,14 +48,14 @@ pub fn stack_of(plan: &Plan, rooms: &[u16], sheets: &[Vec<u8>]) -> Vec<u8> {
 /// Where a sheet of a stack of so many has its bytes: in the stack, in the numbers and in the data.
 pub fn places(plan: &Plan, count: usize, sheet: usize) -> [Range<usize>; 3] {
     let at = |start: usize, len: usize| start + sheet * len..start + (sheet + 1) * len;
-    [at(2 + 6 * count, plan.sheet_len()), at(0, 16), at(0, plan.data_len())]
+    [at(2 + 6 * count, plan.sheet_len()), at(0, NUMBERS_LEN), at(0, plan.data_len())]
 }
 
 /// The numbers that a stack tells of a sheet, as one answer.
 pub fn told_of(numbers: &[u8], sheet: usize) -> Answer {
-    let of = &numbers[16 * sheet..16 * (sheet + 1)];
+    let of = &numbers[NUMBERS_LEN * sheet..NUMBERS_LEN * (sheet + 1)];
     let mut fields = of.chunks(2).map(|two| u64::from(two[0]) + 256 * u64::from(two[1]));
-    let mut next = || fields.next().expect("there are eight");
+    let mut next = || fields.next().expect("there are nine");
     Answer {
         number: next(),
         p: next(),
@@ -64,6 +65,7 @@ pub fn told_of(numbers: &[u8], sheet: usize) -> Answer {
         left: next(),
         height: next(),
         width: next(),
+        pattern: next(),
     }
 }
 
@@ -72,7 +74,7 @@ impl Lent {
     pub fn new(plan: &Plan, rooms: &[u16], sheets: &[Vec<u8>], rng: &mut Rng) -> Lent {
         Lent {
             stack: stack_of(plan, rooms, sheets),
-            numbers: rng.bytes(16 * sheets.len()),
+            numbers: rng.bytes(NUMBERS_LEN * sheets.len()),
             data: rng.bytes(sheets.len() * plan.data_len()),
         }
     }
@@ -109,7 +111,7 @@ impl Lent {
         let mut changed = self.clone();
         for sheet in (0..rooms.len()).filter(|&sheet| rooms[sheet] == room) {
             let other = sheet_of(plan, rng.pick(&KINDS), rng);
-            let bytes = [other, rng.bytes(16), rng.bytes(plan.data_len())];
+            let bytes = [other, rng.bytes(NUMBERS_LEN), rng.bytes(plan.data_len())];
             changed.set(places(plan, rooms.len(), sheet), bytes);
         }
         changed

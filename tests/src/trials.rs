@@ -63,7 +63,7 @@ pub fn patterns(plan: &Plan) -> usize {
 /// Cases 3, 4, 6 and 7 of 01, and others worked out by hand: bursts in the first rectangle and in the last, such as are
 /// smaller than the rectangle they are found in, and sheets with one sum 0.
 pub fn trial_cases() -> Vec<ReadCase> {
-    let case = |plan: Plan, sheet: &[u8], read: Option<([u64; 5], &[u8], &[u8])>| {
+    let case = |plan: Plan, sheet: &[u8], read: Option<([u64; 6], &[u8], &[u8])>| {
         let read = read.map(|(numbers, mended, data)| (numbers, mended.to_vec(), data.to_vec()));
         (plan, sheet.to_vec(), read)
     };
@@ -73,41 +73,49 @@ pub fn trial_cases() -> Vec<ReadCase> {
     let mut cases = read_cases();
     cases.extend([
         // As written from data 02: the first pattern of the first rectangle is the empty one.
-        case(plan_s(), &[0x03, 0x03, 0x00], Some(([0; 5], &[0x03, 0x03, 0x00], &[0x02]))),
+        case(plan_s(), &[0x03, 0x03, 0x00], Some(([0; 6], &[0x03, 0x03, 0x00], &[0x02]))),
         // The first cell, and the last.
-        case(plan_s(), &[0x02, 0x03, 0x00], Some(([1, 0, 0, 1, 1], &[0x03, 0x03, 0x00], &[0x02]))),
-        case(plan_s(), &[0x03, 0x03, 0x04], Some(([1, 2, 2, 1, 1], &[0x03, 0x03, 0x00], &[0x02]))),
+        case(
+            plan_s(),
+            &[0x02, 0x03, 0x00],
+            Some(([1, 0, 0, 1, 1, 1], &[0x03, 0x03, 0x00], &[0x02])),
+        ),
+        case(
+            plan_s(),
+            &[0x03, 0x03, 0x04],
+            Some(([1, 2, 2, 1, 1, 1], &[0x03, 0x03, 0x00], &[0x02])),
+        ),
         // 05 05 is written from data 02: both cells of the last rectangle, and the last cell alone, which is narrower
         // than that.
-        case(plan_t(), &[0x05, 0x05], Some(([0; 5], &[0x05, 0x05], &[0x02]))),
-        case(plan_t(), &[0x05, 0x09], Some(([2, 1, 2, 1, 2], &[0x05, 0x05], &[0x02]))),
-        case(plan_t(), &[0x05, 0x0d], Some(([1, 1, 3, 1, 1], &[0x05, 0x05], &[0x02]))),
+        case(plan_t(), &[0x05, 0x05], Some(([0; 6], &[0x05, 0x05], &[0x02]))),
+        case(plan_t(), &[0x05, 0x09], Some(([2, 1, 2, 1, 2, 3], &[0x05, 0x05], &[0x02]))),
+        case(plan_t(), &[0x05, 0x0d], Some(([1, 1, 3, 1, 1, 1], &[0x05, 0x05], &[0x02]))),
         // 0a 0a is written from data 01: columns 2 and 3 of row 0.
-        case(plan_t(), &[0x06, 0x0a], Some(([2, 0, 2, 1, 2], &[0x0a, 0x0a], &[0x01]))),
+        case(plan_t(), &[0x06, 0x0a], Some(([2, 0, 2, 1, 2, 3], &[0x0a, 0x0a], &[0x01]))),
         // 03 00 03 is written from data 01: column 1 of rows 0 and 1, and of rows 1 and 2.
         case(
             plan_two_rows(),
             &[0x01, 0x02, 0x03],
-            Some(([2, 0, 1, 2, 1], &[0x03, 0x00, 0x03], &[0x01])),
+            Some(([2, 0, 1, 2, 1, 3], &[0x03, 0x00, 0x03], &[0x01])),
         ),
         case(
             plan_two_rows(),
             &[0x03, 0x02, 0x01],
-            Some(([2, 1, 1, 2, 1], &[0x03, 0x00, 0x03], &[0x01])),
+            Some(([2, 1, 1, 2, 1, 3], &[0x03, 0x00, 0x03], &[0x01])),
         ),
         // The light sheet with its last cell turned over: found in rows 1 and 2, and told as row 2.
-        case(plan_two_rows(), &[0x00, 0x00, 0x02], Some(([1, 2, 1, 1, 1], &[0; 3], &[0x00]))),
+        case(plan_two_rows(), &[0x00, 0x00, 0x02], Some(([1, 2, 1, 1, 1, 1], &[0; 3], &[0x00]))),
         // Rows 0 and 2 of column 1: V 1 ^ 4 = 5, which no two rows have that follow each other; H 1 ^ 1 = 0.
         case(plan_two_rows(), &[0x02, 0x00, 0x02], None),
         // Both cells of row 0: V 1 ^ 1 = 0, as the empty pattern alone has; but H 0 ^ 1 = 1.
         case(plan_two_rows(), &[0x03, 0x00, 0x00], None),
         // The last data bit of the tall plan is (8, 1), the last cell of all: as written, and that cell turned over.
-        case(plan_tall(), &tall, Some(([0; 5], &tall, &[0x00, 0x10]))),
-        case(plan_tall(), &last_light, Some(([1, 8, 1, 1, 1], &tall, &[0x00, 0x10]))),
+        case(plan_tall(), &tall, Some(([0; 6], &tall, &[0x00, 0x10]))),
+        case(plan_tall(), &last_light, Some(([1, 8, 1, 1, 1, 1], &tall, &[0x00, 0x10]))),
         // Without data: clean, either cell, and both, which have V 1 ^ 1 = 0 and H 0 ^ 1 = 1.
-        case(no_data(), &[0x00], Some(([0; 5], &[0x00], &[]))),
-        case(no_data(), &[0x01], Some(([1, 0, 0, 1, 1], &[0x00], &[]))),
-        case(no_data(), &[0x02], Some(([1, 0, 1, 1, 1], &[0x00], &[]))),
+        case(no_data(), &[0x00], Some(([0; 6], &[0x00], &[]))),
+        case(no_data(), &[0x01], Some(([1, 0, 0, 1, 1, 1], &[0x00], &[]))),
+        case(no_data(), &[0x02], Some(([1, 0, 1, 1, 1, 1], &[0x00], &[]))),
         case(no_data(), &[0x03], None),
     ]);
     cases

@@ -210,7 +210,7 @@ fn read_again() {
             let (first, [left, data]) = harness.columns_read(&plan, &sheet);
             let (second, [again, data_again]) = harness.columns_read(&plan, &left);
             let [first, second] = [first, second].map(Answer::unpack);
-            assert_eq!((first.places(), [0; 5]), (second.places(), second.mended()));
+            assert_eq!((first.places(), [0; 6]), (second.places(), second.mended()));
             assert!(left == again && (first.is_refusal() || data == data_again));
         }
     }

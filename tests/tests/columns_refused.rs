@@ -165,7 +165,7 @@ fn every_number_of_turning() {
                     let source = any_sheet(from, &plan, rng);
                     let target = any_sheet(from.other(), &plan, rng);
                     let answer = harness.turn(from, &bytes, &source, target.len());
-                    assert_eq!(Answer::unpack(answer).mended(), [0; 5]);
+                    assert_eq!(Answer::unpack(answer).mended(), [0; 6]);
                     tally.count(answer);
                     let both = [(from, source.len()), (from.other(), target.len())];
                     match both.map(|(layout, len)| len == layout.sheet_len(&plan)) {

@@ -3,8 +3,8 @@
 use sheet_tests::answer::Answer;
 use sheet_tests::cases::{plan_s, plan_t};
 use sheet_tests::ffi::{
-    alter, first_difference, house_plan, part, plan_make, read_stack, read_two, sums, turn,
-    BY_COLUMN, BY_TRIAL, SHEET,
+    alter, first_difference, house_plan, part, plan_make, put_back, read_stack, read_two, sums,
+    turn, BY_COLUMN, BY_TRIAL, SHEET,
 };
 use sheet_tests::given::{Given, HOUSE};
 use sheet_tests::header::constant;
@@ -45,7 +45,13 @@ fn number_of_two_scans() {
 #[test]
 fn numbers_of_a_stack() {
     assert_eq!([constant("SHEET_STACK_FORM"), constant("SHEET_NUMBERS_LENGTH")], [20, 21]);
-    assert_eq!([constant("SHEET_STACK_SHEETS"), constant("SHEET_STACK_NUMBERS")], [64, 16]);
+    assert_eq!([constant("SHEET_STACK_SHEETS"), constant("SHEET_STACK_NUMBERS")], [64, 18]);
+}
+
+/// The number of the check that putting back brings.
+#[test]
+fn number_of_putting_back() {
+    assert_eq!(constant("SHEET_NOT_A_BURST"), 22);
 }
 
 #[test]
@@ -206,6 +212,25 @@ fn null_altered() {
             assert_eq!(told.number, number);
             assert_eq!(alter(&bytes, &mut left, 0, true), told.pack());
             assert_eq!(left, expected);
+        }
+    }
+}
+
+/// The same for putting back: the plan and the sheet, with an answer that is taken and one that is not.
+#[test]
+fn null_put_back() {
+    for plan in [plan_s(), plan_t(), no_data()] {
+        let cell = model::smallest_rectangle(&[(plan.n1 - 1, 1)]).pack();
+        for (answer, number) in [(0, 0), (cell, 0), (cell | 1, 22)] {
+            for (empty, number) in [number, 1, 11, 1].into_iter().enumerate() {
+                let bytes = kept(empty, 0, plan.encode());
+                let sheet = kept(empty, 1, vec![0; plan.sheet_len()]);
+                let (mut left, mut expected) = (sheet.clone(), sheet);
+                let told = model::put_back(&bytes, &mut expected, answer);
+                assert_eq!(told.number, number);
+                assert_eq!(put_back(&bytes, &mut left, answer, true), told.pack());
+                assert_eq!(left, expected);
+            }
         }
     }
 }

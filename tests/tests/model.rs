@@ -80,8 +80,8 @@ fn odd_rows_run_down() {
 fn printed_lines() {
     let t = plan_t().encode();
     let with = |tail: &[u8]| [&t[..], tail].concat();
-    assert_eq!(line(&with(&[0x03, 0x05])), "ok 2 0 1 1 2 02");
-    assert_eq!(line(&with(&[0x05, 0x05])), "ok 0 0 0 0 0 02");
+    assert_eq!(line(&with(&[0x03, 0x05])), "ok 2 0 1 1 2 3 02");
+    assert_eq!(line(&with(&[0x05, 0x05])), "ok 0 0 0 0 0 0 02");
     assert_eq!(line(&with(&[0x0c, 0x05])), "no 14 0 0");
     assert_eq!(line(&with(&[0x0c, 0x15])), "no 13 1 0");
     assert_eq!(line(&with(&[0x03, 0x05, 0x00])), "no 11 0 0");
@@ -92,10 +92,10 @@ fn printed_lines() {
     // A length field below 20: the plan is 20 bytes all the same.
     assert_eq!(line(&[[0; 20].as_slice(), &[1]].concat()), "no 2 0 0");
     assert_eq!(line(&with(&vec![0; INPUT_LIMIT])), "no 11 0 0");
-    assert_eq!(line(&[no_data().encode(), vec![0x02]].concat()), "ok 1 0 1 1 1");
+    assert_eq!(line(&[no_data().encode(), vec![0x02]].concat()), "ok 1 0 1 1 1 1");
     // More than one byte of data stands in one field.
     let plan = powers_3x3(9, 9, CellOrder::Sheet, &mut Rng::new(1));
-    assert_eq!(line(&[plan.encode(), vec![0; 18]].concat()), "ok 0 0 0 0 0 000000000000");
+    assert_eq!(line(&[plan.encode(), vec![0; 18]].concat()), "ok 0 0 0 0 0 0 000000000000");
 }
 
 /// docs/ANSWER.md gives the layout as an expression too.
@@ -103,14 +103,23 @@ fn printed_lines() {
 fn packed_answers() {
     let mut rng = Rng::new(2);
     for _ in 0..1000 {
-        let [number, p, q, cells, top, left, height, width] =
-            [5, 16, 12, 5, 9, 10, 3, 3].map(|bits| u64::from(rng.bits(bits)));
-        let answer = Answer { number, p, q, cells, top, left, height, width };
-        let sizes = left + (1 << 10) * (height + (1 << 3) * width);
-        let mended = cells + (1 << 5) * (top + (1 << 9) * sizes);
-        let packed = number + (1 << 5) * (p + (1 << 16) * (q + (1 << 12) * mended));
-        assert_eq!(answer.pack(), packed);
-        assert_eq!(Answer::unpack(packed), answer);
+        let [p, q, cells, top, left, height, width, pattern] =
+            [16, 12, 5, 9, 10, 3, 3, 16].map(|bits| u64::from(rng.bits(bits)));
+        let number = rng.within(1, 31) as u64;
+        let refusal = Answer { number, p, q, ..Answer::default() };
+        let success = Answer { cells, top, left, height, width, pattern, ..Answer::default() };
+        let sizes = left + (1 << 10) * (height + (1 << 3) * (width + (1 << 3) * pattern));
+        let above = cells + (1 << 5) * (top + (1 << 9) * sizes);
+        for (answer, packed) in
+            [(refusal, number + (1 << 5) * (p + (1 << 16) * q)), (success, (1 << 5) * above)]
+        {
+            assert_eq!(answer.pack(), packed);
+            assert_eq!(Answer::unpack(packed), answer);
+            // Above the fields there are 31 bits of a refusal, and 13 of a success.
+            let others = if answer.is_refusal() { 33..64 } else { 51..64 };
+            let bit = rng.within(others.start, others.end - 1);
+            assert_eq!(Answer::told_by(packed | 1 << bit), answer);
+        }
     }
 }
 

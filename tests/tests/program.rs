@@ -77,7 +77,7 @@ fn blotted(plan: &Plan, rng: &mut Rng) -> Vec<u8> {
 
 #[test]
 fn case_12() {
-    assert_eq!(compare(&joined(&plan_t().encode(), &[0x03, 0x05])), "ok 2 0 1 1 2 02\n");
+    assert_eq!(compare(&joined(&plan_t().encode(), &[0x03, 0x05])), "ok 2 0 1 1 2 3 02\n");
 }
 
 #[test]
@@ -162,7 +162,7 @@ fn hundreds_of_inputs() {
     assert!(taken >= 150 && refused >= 150);
 }
 
-/// What is worked out by hand of small sheets, as it is printed: the five numbers and the data, or 14.
+/// What is worked out by hand of small sheets, as it is printed: the six numbers and the data, or 14.
 #[test]
 fn worked_sheets() {
     for (plan, sheet, read) in trial_cases() {

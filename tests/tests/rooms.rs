@@ -6,7 +6,7 @@ use sheet_tests::compared::{house_by_call, Harness};
 use sheet_tests::damage::{alter_length, damaged};
 use sheet_tests::kinds::{sheet_of, Kind, KINDS};
 use sheet_tests::make::{accepted, burst_sizes};
-use sheet_tests::model::{self, smallest_rectangle};
+use sheet_tests::model::{self, smallest_rectangle, NUMBERS_LEN};
 use sheet_tests::plan::Plan;
 use sheet_tests::scans::{random_burst, random_data, turned};
 use sheet_tests::stacks::{bad_stacks, places, random_rooms, told_of, Lent, COUNTS};
@@ -15,7 +15,7 @@ use sheet_tests::tally::Tally;
 /// 02 h): each sheet is read as if it were alone. Its bytes, its numbers and its data are those that sheet_read
 /// leaves and answers.
 fn as_if_alone(harness: &mut Harness, plan: &Plan, before: &Lent, after: &Lent) -> Tally {
-    let (bytes, count) = (plan.encode(), before.numbers.len() / 16);
+    let (bytes, count) = (plan.encode(), before.numbers.len() / NUMBERS_LEN);
     let mut tally = Tally::default();
     for sheet in 0..count {
         let places = places(plan, count, sheet);

@@ -8,7 +8,7 @@ use sheet_tests::compared::Harness;
 use sheet_tests::damage::{alter_length, damaged};
 use sheet_tests::kinds::{sheet_of, Kind};
 use sheet_tests::make::{accepted, burst_sizes, no_data, powers_3x3, CellOrder};
-use sheet_tests::model;
+use sheet_tests::model::{self, NUMBERS_LEN};
 use sheet_tests::pairs::hopeless;
 use sheet_tests::plan::Plan;
 use sheet_tests::scans::{every_sheet, random_burst, turned};
@@ -88,7 +88,7 @@ fn order_of_the_checks() {
     for (bytes, of_the_plan) in plan_for_each_number() {
         for (stack, is_good) in &stacks {
             let count = stack.first().map_or(0, |&count| usize::from(count));
-            for numbers_len in [0, 1, 2, 15, 16, 17, 31, 32, 33] {
+            for numbers_len in [0, 1, 2, 16, 17, 18, 19, 32, 35, 36, 37] {
                 for data_len in [0, 1, 2, 3, 6] {
                     let (numbers, data) = (vec![0xaa; numbers_len], vec![0xaa; data_len]);
                     let lent = Lent { stack: stack.clone(), numbers, data };
@@ -96,7 +96,7 @@ fn order_of_the_checks() {
                     let expected = match () {
                         () if of_the_plan.is_refusal() => of_the_plan,
                         () if !is_good => Answer::refusal(20, 0, 0),
-                        () if numbers_len != 16 * count => Answer::refusal(21, 0, 0),
+                        () if numbers_len != NUMBERS_LEN * count => Answer::refusal(21, 0, 0),
                         () if data_len != count => Answer::refusal(12, 0, 0),
                         () => Answer::default(),
                     };
@@ -227,7 +227,7 @@ fn every_number() {
                 }
                 let (answer, left) = harness.read_stack(&bytes, &lent);
                 tally.count(answer);
-                assert_eq!(Answer::unpack(answer).mended(), [0; 5]);
+                assert_eq!(Answer::unpack(answer).mended(), [0; 6]);
                 for sheet in (0..count).filter(|_| answer == 0) {
                     of_sheets.count(told_of(&left.numbers, sheet).pack());
                 }
@@ -338,7 +338,7 @@ fn read_again() {
         assert!(once.stack == twice.stack && once.data == twice.data);
         for sheet in 0..17 {
             let [first, second] = [&once, &twice].map(|left| told_of(&left.numbers, sheet));
-            assert_eq!((first.places(), [0; 5]), (second.places(), second.mended()));
+            assert_eq!((first.places(), [0; 6]), (second.places(), second.mended()));
         }
     }
 }

@@ -4,8 +4,8 @@ use std::thread;
 
 use sheet_tests::answer::Answer;
 use sheet_tests::ffi::{
-    alter, first_difference, house_plan, plan_make, read_stack, read_two, sums, turn, Archive,
-    BY_TRIAL, SHEET,
+    alter, first_difference, house_plan, plan_make, put_back, read_stack, read_two, sums, turn,
+    Archive, BY_TRIAL, SHEET,
 };
 use sheet_tests::given::{Given, HOUSE};
 use sheet_tests::header::constant;
@@ -216,6 +216,30 @@ fn stack_of_altering() {
                 (answer, left)
             });
             assert!(answer == told.pack() && left == expected, "{answer:#x} at {position}");
+        }
+    }
+}
+
+/// A full burst in the last corner, none, and refusals by the last two checks.
+#[test]
+fn stack_of_putting_back() {
+    let enough = constant("SHEET_PUT_BACK_STACK");
+    for plan in large_plans(&mut Rng::new(11)) {
+        let cells = burst(&plan, plan.n1 - plan.b1, plan.n2 - plan.b2, u32::MAX);
+        let last = model::smallest_rectangle(&cells).pack();
+        let (good, mut bad) = (dark_sheet(&plan), dark_sheet(&plan));
+        bad[plan.sheet_len() - 1] |= 0x80;
+        for (sheet, answer, number) in
+            [(&good, last, 0), (&good, 0, 0), (&good, last | 1 << 63, 22), (&bad, last, 13)]
+        {
+            let (bytes, mut left, mut expected) = (plan.encode(), sheet.clone(), sheet.clone());
+            let told = model::put_back_accepted(&plan, &mut expected, answer);
+            assert_eq!(told.number, number);
+            let (by_call, left) = with_stack(enough, move || {
+                let by_call = put_back(&bytes, &mut left, answer, false);
+                (by_call, left)
+            });
+            assert!(by_call == told.pack() && left == expected, "{by_call:#x}, not {number}");
         }
     }
 }

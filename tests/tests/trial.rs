@@ -25,7 +25,7 @@ fn worked_sheets() {
     let mut library = Library::new(171);
     let (mut taken, mut refused) = (0, 0);
     let written = write_cases().into_iter().map(|(plan, data, sheet)| {
-        let read = Some(([0; 5], sheet.clone(), data));
+        let read = Some(([0; 6], sheet.clone(), data));
         (plan, sheet, read)
     });
     for (plan, before, expected) in trial_cases().into_iter().chain(written) {

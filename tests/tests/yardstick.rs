@@ -6,6 +6,7 @@ use sheet_tests::kinds::{sheet_in, KINDS};
 use sheet_tests::make::{accepted, burst_sizes};
 use sheet_tests::model::{self, Layout};
 use sheet_tests::positions::random_position;
+use sheet_tests::puts::{every_small_answer, near_misses, random_answer, spoilt_answer};
 use sheet_tests::rng::Rng;
 use sheet_tests::runs::random_run;
 use sheet_tests::scans::{random_burst, random_data, random_sheet, turned};
@@ -105,6 +106,44 @@ fn yardstick_of_altering_agrees() {
         "plain altering",
         &[(0..=0, 1000), (11..=11, 100), (13..=13, 100), (17..=18, 100)],
     );
+}
+
+/// So does putting back: good and damaged plans, sheets of every kind, answers of bursts and others.
+#[test]
+fn yardstick_of_putting_back_agrees() {
+    let mut rng = Rng::new(32);
+    let mut tally = Tally::default();
+    for (b1, b2) in burst_sizes() {
+        for _ in 0..20 {
+            let plan = accepted(&mut rng, b1, b2, 10);
+            let mut answers: Vec<_> = near_misses(&plan).into_iter().map(|(_, one)| one).collect();
+            if b1 * b2 == 1 && plan.n1 * plan.n2 <= 64 {
+                answers.extend(every_small_answer(&plan));
+            }
+            answers.extend((0..40).map(|_| random_answer(&plan, &mut rng)));
+            answers.extend((0..40).map(|_| {
+                let good = random_answer(&plan, &mut rng);
+                spoilt_answer(&plan, good, &mut rng)
+            }));
+            for answer in answers {
+                let bytes = if rng.one_in(8) { damaged(&plan, &mut rng) } else { plan.encode() };
+                let mut sheet = random_sheet(&plan, &mut rng);
+                if rng.one_in(16) {
+                    set_unused_of_sheet(&plan, &mut sheet, &mut rng);
+                }
+                if rng.one_in(16) {
+                    alter_length(&mut sheet, &mut rng);
+                }
+                let (mut left, mut expected) = (sheet.clone(), sheet);
+                let told = model::put_back(&bytes, &mut expected, answer).pack();
+                assert_eq!(yardstick::plain_put_back(&bytes, &mut left, answer), told);
+                assert_eq!(left, expected, "{answer:#x}");
+                tally.count(told);
+            }
+        }
+    }
+    let least = [(0..=0, 8000), (11..=11, 1000), (13..=13, 1000), (22..=22, 50_000)];
+    tally.require("plain putting back", &least);
 }
 
 /// So does the reading of two scans, and where they first differ: good and damaged plans, scans of one sheet

@@ -2,29 +2,36 @@
 --
 --   cells-equal, cells-flat, cells-some, cells-none   the number of cells: by cell numbers, and where it is 0
 --   box-count             a set in a rectangle has at most height × width cells
+--   run-on                the run from the first place at which something holds to the last ends below the bound
+--   box-place             digit k of a pattern number stands in a row and in a column of the rectangle
 --   report-cells          equal cells on the sheet give equal reports
 --   report-inside         a set on the sheet lies in the rectangle of its report
 --   report-least          any rectangle that holds the set holds that one
---   report-none           the empty set has five zeros
---   burst-report, SmallReport   of a burst: at most 16 cells, on the sheet, no larger than b1 by b2
+--   report-none           the empty set has six zeros
+--   report-bit, report-below   the bits of the report's pattern, and that there is none beyond its rectangle
+--   report-pattern        the cells of that pattern in that rectangle are the set
+--   burst-report, SmallReport   of a burst: at most 16 cells, on the sheet, no larger than b1 by b2, the pattern of at most 16 digits
 --
 -- Assumes nothing.
 use mathlib.Core.Path.{_≡_, refl, sym, ap, ap₂, _∙_}
 use mathlib.Core.Bool.{Bool, true, false}
-use Prim.Native.Nat.{ℕ, zero, suc, _+_, _-_, _*_, _/_, _%_, _≤_, _<_}
-use native.Mathlib.Nat.{lt-suc-self, suc-mul, zero-mul, mul-le-mul, mul-le-mul-right, le-trans}
+use Prim.Native.Nat.{ℕ, zero, suc, _+_, _-_, _*_, _/_, _%_, _^_, _≤_, _<_}
+use native.Mathlib.Nat.{lt-suc-self, suc-mul, zero-mul, mul-zero, mul-le-mul, mul-le-mul-right, le-trans, mod-lt, div-lt-iff-lt-mul}
 use native.Mathlib.Omega.{arith}
 use lib.Arith.{digits-lt, digits-div, digits-mod}
-use Rattle.finite.specs.Search.{anyBelow, countBelow, firstOf, pastOf}
+use lib.Pow.{pow-mono}
+use Rattle.finite.specs.Search.{bit, numberOf, anyBelow, countBelow, firstOf, pastOf}
 use Rattle.boxcode.specs.Code.{Code, Formed}
 use Rattle.boxcode.specs.Syndrome.{Cells, SameCells}
-use Rattle.boxcode.specs.Burst.{Inside, Burst}
-use Rattle.boxcode.specs.Reader.{Report, cellCount, rowTouched, columnTouched, reportOf, noReport, LiesIn}
+use Rattle.boxcode.specs.Burst.{Inside, Burst, boxCells, boxNumber}
+use Rattle.boxcode.specs.Reader.{Report, cellCount, rowTouched, columnTouched, topOf, leftOf, heightOf, widthOf, reportOf, noReport, LiesIn}
 use Rattle.finite.proofs.Truth.{Truth, is-true, is-false, true-or-false, clash, not-true}
 use Rattle.finite.proofs.Search.{any-found, any-here, any-none, none-any, any-equal, first-is, first-none, first-equal, past-le, past-above}
 use Rattle.finite.proofs.Search.{past-last, past-none, past-equal}
 use Rattle.finite.proofs.Count.{count-equal, count-none, count-rise, count-split, count-run}
+use Rattle.finite.proofs.Digits.{number-equal, number-below}
 use Rattle.boxcode.proofs.Burst.{OnSheet}
+use Rattle.boxcode.proofs.Trial.{box-bit, box-number}
 
 -- ---- the number of cells
 
@@ -138,6 +145,35 @@ module _ (n : ℕ) (p : ℕ → Bool) where
           let q : pastOf n p ≡ 0 = past-none n p t in
           omega arith
 
+  -- it ends on the sheet, also where p holds nowhere
+  pub run-on : firstOf n p + size n p ≤ n
+  run-on = go (true-or-false (anyBelow n p))
+    where
+      go : Truth (anyBelow n p) → firstOf n p + size n p ≤ n
+      go (is-true t) = let l : firstOf n p < n = first-is n p t .below in let m : pastOf n p ≤ n = past-le n p in omega arith
+      go (is-false t) = let e : firstOf n p ≡ 0 = first-none n p t in let m : pastOf n p ≤ n = past-le n p in omega arith
+
+-- ---- the number of a pattern
+
+-- digit k stands in a row and in a column of the rectangle
+pub box-place : (height width k : ℕ) → k < height * width → (k / width < height) × (k % width < width)
+box-place height zero k l = let e : height * 0 ≡ 0 = mul-zero height in absurd (omega arith)
+box-place height (suc w) k l =
+    let pos : 0 < suc w = omega arith in
+    (div-lt-iff-lt-mul pos .1 l, mod-lt k pos)
+
+box-numbers : (n m top left height width : ℕ) (e e' : Cells) → top + height ≤ n → left + width ≤ m
+    → ((i j : ℕ) → i < n → j < m → e i j ≡ e' i j) → boxNumber top left height width e ≡ boxNumber top left height width e'
+unfolding boxNumber
+box-numbers n m top left height width e e' rows columns h =
+    number-equal (height * width) (λ k. e (top + k / width) (left + k % width)) (λ k. e' (top + k / width) (left + k % width))
+    (λ k l. let p = box-place height width k l in h (top + k / width) (left + k % width) (omega arith) (omega arith))
+
+number-none : (top left height width : ℕ) (e : Cells) → height ≡ 0 → boxNumber top left height width e ≡ 0
+unfolding boxNumber numberOf
+number-none top left height width e z =
+    ap (λ (n : ℕ). numberOf n (λ k. e (top + k / width) (left + k % width))) (ap (λ (h : ℕ). h * width) z ∙ zero-mul width)
+
 -- ---- the report
 
 -- the numbers of a report of a burst, in their ranges
@@ -150,6 +186,7 @@ pub record SmallReport (c : Code) (r : Report) : Type 0 where
   pub width-most : r .width ≤ c .b2
   pub rows-on : r .top + r .height ≤ c .n1
   pub columns-on : r .left + r .width ≤ c .n2
+  pub pattern-most : r .pattern < 65536
 
 module _ (c : Code) where
   row-has : (e : Cells) (i j : ℕ) → j < c .n2 → e i j ≡ true → rowTouched c e i ≡ true
@@ -183,7 +220,18 @@ module _ (c : Code) where
       let pr = past-equal (c .n1) (rowTouched c e) (rowTouched c e') (rows-equal e e' h) in
       let fc = first-equal (c .n2) (columnTouched c e) (columnTouched c e') (columns-equal e e' h) in
       let pc = past-equal (c .n2) (columnTouched c e) (columnTouched c e') (columns-equal e e' h) in
-      λ i. record { cells = cells-equal (c .n1) (c .n2) e e' h i; top = fr i; left = fc i; height = pr i - fr i; width = pc i - fc i }
+      let same : boxNumber (topOf c e) (leftOf c e) (heightOf c e) (widthOf c e) e ≡ boxNumber (topOf c e') (leftOf c e') (heightOf c e') (widthOf c e') e' =
+      (λ i. boxNumber (fr i) (fc i) (pr i - fr i) (pc i - fc i) e)
+      ∙ box-numbers (c .n1) (c .n2) (topOf c e') (leftOf c e') (heightOf c e') (widthOf c e') e e' (run-on (c .n1) (rowTouched c e'))
+      (run-on (c .n2) (columnTouched c e')) h in
+      λ i. record {
+        cells = cells-equal (c .n1) (c .n2) e e' h i;
+        top = fr i;
+        left = fc i;
+        height = pr i - fr i;
+        width = pc i - fc i;
+        pattern = same i;
+      }
 
   pub report-inside : (e : Cells) → OnSheet c e → Inside (reportOf c e .top) (reportOf c e .left) (reportOf c e .height) (reportOf c e .width) e
   unfolding reportOf
@@ -221,13 +269,30 @@ module _ (c : Code) where
       none-any (c .n1) (rowTouched c e) (λ i l. not-true (rowTouched c e i) (λ t. let w = has-row e i t in clash (w .2) (h i (w .0) l (w .1)))) in
       let k : anyBelow (c .n2) (columnTouched c e) ≡ false =
       none-any (c .n2) (columnTouched c e) (λ j l. not-true (columnTouched c e j) (λ t. let w = has-column e j t in clash (w .2) (h (w .0) j (w .1) l))) in
+      let z : pastOf (c .n1) (rowTouched c e) ≡ 0 = past-none (c .n1) (rowTouched c e) r in
+      let empty = number-none (topOf c e) (leftOf c e) (heightOf c e) (widthOf c e) e (let y : heightOf c e ≡ 0 = omega arith in y) in
       λ i. record {
         cells = cells-none (c .n1) (c .n2) e h i;
         top = first-none (c .n1) (rowTouched c e) r i;
         left = first-none (c .n2) (columnTouched c e) k i;
         height = past-none (c .n1) (rowTouched c e) r i - first-none (c .n1) (rowTouched c e) r i;
         width = past-none (c .n2) (columnTouched c e) k i - first-none (c .n2) (columnTouched c e) k i;
+        pattern = empty i;
       }
+
+  pub report-bit : (e : Cells) → let r = reportOf c e in (i j : ℕ) → i < r .height → j < r .width
+      → bit (r .pattern) (i * r .width + j) ≡ e (r .top + i) (r .left + j)
+  unfolding reportOf
+  report-bit e i j li lj = box-bit (topOf c e) (leftOf c e) (heightOf c e) (widthOf c e) e i j li lj
+
+  pub report-below : (e : Cells) → let r = reportOf c e in r .pattern < 2 ^ (r .height * r .width)
+  unfolding reportOf boxNumber
+  report-below e = number-below (heightOf c e * widthOf c e) (λ t. e (topOf c e + t / widthOf c e) (leftOf c e + t % widthOf c e))
+
+  pub report-pattern : (e : Cells) → OnSheet c e → let r = reportOf c e in (i j : ℕ)
+      → boxCells (r .top) (r .left) (r .height) (r .width) (r .pattern) i j ≡ e i j
+  unfolding reportOf
+  report-pattern e on i j = box-number (topOf c e) (leftOf c e) (heightOf c e) (widthOf c e) e (report-inside e on) i j
 
   pub burst-report : Formed c → (e : Cells) → Burst c e → SmallReport c (reportOf c e)
   unfolding reportOf
@@ -240,6 +305,9 @@ module _ (c : Code) where
     width-most = k .1;
     rows-on = r .2;
     columns-on = k .2;
+    pattern-most =
+        let p : 2 ^ (heightOf c e * widthOf c e) ≤ 2 ^ 16 = pow-mono (le-trans (mul-le-mul (r .1) (k .1)) sixteen) in
+        omega (arith, report-below e);
   }
     where
       box : cellCount (c .n1) (c .n2) e ≤ c .b1 * c .b2

@@ -1,6 +1,7 @@
 -- The trial of all bursts, for any code of the right form:
 --
---   box-inside, box-number   a pattern number gives cells inside its rectangle, and every set inside one has a number
+--   box-inside, box-cell     a pattern number gives cells inside its rectangle, one for each digit
+--   box-bit, box-number      a set of cells has a number in a rectangle, one digit for each cell; and if it lies inside, the number gives the set
 --   trial-rows, trial-columns   the rectangle of a trial lies on the sheet
 --   trial-burst, burst-trial   every trial is a burst, and every burst is a trial
 --   BurstWith                a burst with two given sums
@@ -49,14 +50,25 @@ module _ (top left height width : ℕ) where
       column : (i j : ℕ) → (within top height i && rest i j) ≡ true → within left width j ≡ true
       column i j t = and-left (within left width j) (digit i j) (and-right (within top height i) (rest i j) t)
 
+  pub box-cell : (x r d : ℕ) → r < height → d < width → boxCells top left height width x (top + r) (left + d) ≡ bit x (r * width + d)
+  unfolding boxCells
+  box-cell x r d lr ld =
+      ap₂ _&&_ (in-within top height (top + r) (omega arith) (omega arith))
+      (ap₂ _&&_ (in-within left width (left + d) (omega arith) (omega arith))
+      (ap₂ (λ (y z : ℕ). bit x (y * width + z)) (let q : top + r - top ≡ r = omega arith in q) (let q : left + d - left ≡ d = omega arith in q)))
+
+  pub box-bit : (e : Cells) (r d : ℕ) → r < height → d < width → bit (boxNumber top left height width e) (r * width + d) ≡ e (top + r) (left + d)
+  unfolding boxNumber
+  box-bit e r d lr ld =
+      bit-number (height * width) (λ k. e (top + k / width) (left + k % width)) (r * width + d) (digits-lt lr ld)
+      ∙ ap₂ (λ (x y : ℕ). e (top + x) (left + y)) (digits-div r ld) (digits-mod r ld)
+
   box-digit : (e : Cells) (i j : ℕ) → top ≤ i → i < top + height → left ≤ j → j < left + width
       → bit (boxNumber top left height width e) ((i - top) * width + (j - left)) ≡ e i j
-  unfolding boxNumber
   box-digit e i j fi ti fj tj =
       let li : i - top < height = omega arith in
       let lj : j - left < width = omega arith in
-      bit-number (height * width) (λ k. e (top + k / width) (left + k % width)) ((i - top) * width + (j - left)) (digits-lt li lj)
-      ∙ ap₂ (λ (x y : ℕ). e (top + x) (left + y)) (digits-div (i - top) lj) (digits-mod (i - top) lj)
+      box-bit e (i - top) (j - left) li lj
       ∙ ap₂ e (let a : top + (i - top) ≡ i = omega arith in a) (let b : left + (j - left) ≡ j = omega arith in b)
 
   pub box-number : (e : Cells) → Inside top left height width e → (i j : ℕ)

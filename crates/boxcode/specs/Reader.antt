@@ -2,19 +2,19 @@
 --
 --   change       the cells that are turned over: the first burst, possibly empty, that brings both sums to 0
 --   mended       the sheet after that
---   Report       how many cells were turned over, and the smallest rectangle that holds them; five zeros where none were
+--   Report       how many cells were turned over, the smallest rectangle that holds them, and their pattern in it (02 k); six zeros where none were
 --   cellCount    the number of cells of a set
 --   rowTouched, columnTouched   a row, and a column, has a cell of the set
 --   topOf, leftOf, heightOf, widthOf   the smallest rectangle that holds a set of cells
 --   reportOf     the report of a set of cells
---   noReport     five zeros
+--   noReport     six zeros
 --   LiesIn       the rectangle of a report lies in another
 use Prim.Native.Nat.{ℕ, zero, suc, _+_, _-_, _≤_}
 use mathlib.Core.Bool.{Bool}
 use Rattle.finite.specs.Search.{anyBelow, countBelow, firstOf, pastOf}
 use Rattle.boxcode.specs.Code.{Code}
 use Rattle.boxcode.specs.Syndrome.{Cells, flip, rowSyndrome, columnSyndrome}
-use Rattle.boxcode.specs.Burst.{burstFor}
+use Rattle.boxcode.specs.Burst.{boxNumber, burstFor}
 
 unfoldable pub change : Code → Cells → Cells
 change c s = burstFor c (rowSyndrome c s) (columnSyndrome c s)
@@ -28,6 +28,7 @@ pub record Report : Type 0 where
   pub left : ℕ
   pub height : ℕ
   pub width : ℕ
+  pub pattern : ℕ
 
 -- the number of cells of a set on the first n rows
 unfoldable pub cellCount : ℕ → ℕ → Cells → ℕ
@@ -55,10 +56,18 @@ abbrev pub widthOf : Code → Cells → ℕ
 widthOf c e = pastOf (c .n2) (columnTouched c e) - leftOf c e
 
 unfoldable pub reportOf : Code → Cells → Report
-reportOf c e = record { cells = cellCount (c .n1) (c .n2) e; top = topOf c e; left = leftOf c e; height = heightOf c e; width = widthOf c e }
+reportOf c e = record {
+  cells = cellCount (c .n1) (c .n2) e;
+  top = topOf c e;
+  left = leftOf c e;
+  height = heightOf c e;
+  width = widthOf c e;
+  -- 02 k: the cell at row r and column s of that rectangle has bit r × width + s
+  pattern = boxNumber (topOf c e) (leftOf c e) (heightOf c e) (widthOf c e) e;
+}
 
 abbrev pub noReport : Report
-noReport = record { cells = 0; top = 0; left = 0; height = 0; width = 0 }
+noReport = record { cells = 0; top = 0; left = 0; height = 0; width = 0; pattern = 0 }
 
 pub record LiesIn (r : Report) (top left height width : ℕ) : Type 0 where
   pub above : top ≤ r .top

@@ -65,9 +65,9 @@ sumsLength sums = lengthVerdict 24 sums 8
 abbrev pub dataLengths : Code → ℕ → List ℕ → Verdict
 dataLengths c n bits = lengthVerdict 12 bits (n * rowBytes (dataSize c))
 
--- eight numbers of 16 bits
+-- nine numbers of 16 bits
 abbrev pub numbersSize : ℕ
-numbersSize = 16
+numbersSize = 18
 
 abbrev pub numbersLength : ℕ → List ℕ → Verdict
 numbersLength n numbers = lengthVerdict 21 numbers (n * numbersSize)

@@ -15,8 +15,8 @@ use plan::header::Header;
 use plan::verdict::Verdict;
 use plan::verdict::refuse_if;
 
-// The bytes of the numbers of one sheet of a stack: eight of 16 bits.
-pub const NUMBERS_SIZE: usize = 16;
+// The bytes of the numbers of one sheet of a stack: nine of 16 bits.
+pub const NUMBERS_SIZE: usize = 18;
 
 // The length of a buffer, as check number.
 fn length_verdict(number: usize, s: &[u8], size: usize) -> Verdict

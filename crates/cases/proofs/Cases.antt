@@ -26,7 +26,7 @@ use Rattle.gf2.specs.Sum.{xorSum}
 use Rattle.layout.specs.Cells.{rowBytes, sheetBytes, byteOf, cellOf, usedBits, unusedAt, firstUnused, tabulate, byteFrom, bytesOf}
 use Rattle.boxcode.specs.Code.{cellNumber}
 use Rattle.boxcode.specs.Syndrome.{weightSum, rowSyndrome, columnSyndrome}
-use Rattle.boxcode.specs.Burst.{boxCells, patterns, lefts, trials, trialCells, tried, hasBurst, burstFor}
+use Rattle.boxcode.specs.Burst.{boxCells, boxNumber, patterns, lefts, trials, trialCells, tried, hasBurst, burstFor}
 use Rattle.boxcode.specs.Check.{checkNumber, checkAt, checkIndex, runsDown, dataColumn, dataOrder, dataSize, rank, dataCell, fill, belongs, written, dataOf}
 use Rattle.boxcode.specs.Reader.{change, mended, cellCount, rowTouched, columnTouched, reportOf}
 use Rattle.buffers.specs.Buffers.{lengthVerdict, unusedVerdict, sheetChecks, lengthChecks, writeChecks, readChecks}
@@ -47,7 +47,7 @@ unfolding table S T planS planT planBytes planVerdict conditionsVerdict rowsVerd
     firstLarge entriesVerdict rises badPair listVerdict formVerdict u16At u32At least within place _⊕_ spanned free rowWeight columnWeight jointWeight
     checkJoint rowMember columnMember columnDifference stripEntry rowPairFree columnPairFree bit numberOf anyBelow countBelow firstOf pastOf
     pick xorSum rowBytes sheetBytes byteOf cellOf usedBits unusedAt firstUnused tabulate byteFrom bytesOf cellNumber weightSum rowSyndrome
-    columnSyndrome boxCells patterns lefts trials trialCells tried hasBurst burstFor checkNumber checkAt checkIndex runsDown dataColumn dataOrder dataSize
-    rank dataCell fill belongs written dataOf change mended cellCount rowTouched columnTouched reportOf lengthVerdict unusedVerdict
+    columnSyndrome boxCells boxNumber patterns lefts trials trialCells tried hasBurst burstFor checkNumber checkAt checkIndex runsDown dataColumn dataOrder
+    dataSize rank dataCell fill belongs written dataOf change mended cellCount rowTouched columnTouched reportOf lengthVerdict unusedVerdict
     sheetChecks lengthChecks writeChecks readChecks writtenIn writeIn firstBurst burstIn readVerdict sheetRead bitsRead reportRead readIn xor
 cases-hold = refl

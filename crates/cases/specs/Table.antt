@@ -1,7 +1,7 @@
 -- The table of cases: what is handed in, and what the definitions answer.
 --
 --   Case       a call: the test of a plan, writing, or reading, with what is handed in and what must come of it
---   table      the starred cases of document 01, "Small plans and what they do", in its order, as document 02 c) has them
+--   table      the starred cases of document 01, "Small plans and what they do", in its order, as document 02 c) and k) have them
 use Prim.Native.Nat.{ℕ}
 use mathlib.Core.List.{List, [], _∷_}
 use Rattle.plan.specs.declared.verdict.Verdict.{Verdict}
@@ -25,8 +25,8 @@ checks = 0 ∷ 0 ∷ 0 ∷ 1 ∷ 0 ∷ 2 ∷ 1 ∷ 0 ∷ []
 abbrev writes : List ℕ → List ℕ → List ℕ → List ℕ → Case
 writes plan bits old sheet = writing plan bits old (w.wrote accepted sheet)
 
-abbrev five : ℕ → ℕ → ℕ → ℕ → ℕ → Report
-five cells top left height width = record { cells = cells; top = top; left = left; height = height; width = width }
+abbrev six : ℕ → ℕ → ℕ → ℕ → ℕ → ℕ → Report
+six cells top left height width pattern = record { cells = cells; top = top; left = left; height = height; width = width; pattern = pattern }
 
 abbrev reads : List ℕ → List ℕ → List ℕ → Report → List ℕ → List ℕ → Case
 reads plan sheet old report mended bits = reading plan sheet old (record { verdict = accepted; report = report; sheet = mended; bits = bits })
@@ -45,8 +45,8 @@ table =
     ∷ writes S (0 ∷ []) (9 ∷ 9 ∷ 9 ∷ []) (0 ∷ 0 ∷ 0 ∷ [])
     ∷ writes S (1 ∷ []) (9 ∷ 9 ∷ 9 ∷ []) (5 ∷ 5 ∷ 0 ∷ [])
     ∷ writes S (31 ∷ []) (9 ∷ 9 ∷ 9 ∷ []) (1 ∷ 7 ∷ 7 ∷ [])
-    -- 3. S: sheet 03 03 01 gives 1 2 0 1 1, data 02 (02 c)
-    ∷ reads S (3 ∷ 3 ∷ 1 ∷ []) (9 ∷ []) (five 1 2 0 1 1) (3 ∷ 3 ∷ 0 ∷ []) (2 ∷ [])
+    -- 3. S: sheet 03 03 01 gives 1 2 0 1 1 and 1 (02 k), data 02 (02 c)
+    ∷ reads S (3 ∷ 3 ∷ 1 ∷ []) (9 ∷ []) (six 1 2 0 1 1 1) (3 ∷ 3 ∷ 0 ∷ []) (2 ∷ [])
     -- 4. S: sheets 03 00 00 and 06 01 00 give 14
     ∷ none S (3 ∷ 0 ∷ 0 ∷ []) (9 ∷ [])
     ∷ none S (6 ∷ 1 ∷ 0 ∷ []) (9 ∷ [])
@@ -54,8 +54,8 @@ table =
     ∷ writes T (1 ∷ []) (9 ∷ 9 ∷ []) (10 ∷ 10 ∷ [])
     ∷ writes T (2 ∷ []) (9 ∷ 9 ∷ []) (5 ∷ 5 ∷ [])
     ∷ writes T (3 ∷ []) (9 ∷ 9 ∷ []) (15 ∷ 15 ∷ [])
-    -- 6. T: sheet 03 05 is mended to 05 05; its data is what case 12 ends in, 02 (02 c)
-    ∷ reads T (3 ∷ 5 ∷ []) (9 ∷ []) (five 2 0 1 1 2) (5 ∷ 5 ∷ []) (2 ∷ [])
+    -- 6. T: sheet 03 05 is mended to 05 05; its six numbers and its data, 3 and 02 at the end, are those of case 12 (02 c, k)
+    ∷ reads T (3 ∷ 5 ∷ []) (9 ∷ []) (six 2 0 1 1 2 3) (5 ∷ 5 ∷ []) (2 ∷ [])
     -- 7. T: sheets 0c 05 and 01 01 give 14
     ∷ none T (12 ∷ 5 ∷ []) (9 ∷ [])
     ∷ none T (1 ∷ 1 ∷ []) (9 ∷ [])

@@ -3,7 +3,7 @@
 --   planSize      how many of the bytes are the plan
 --   planPart, sheetPart   the plan, and the rest, which is the sheet
 --   dataField     a space and the data, which is one field; nothing where there is no data
---   okLine        the line of a sheet that was read: the five numbers and the data
+--   okLine        the line of a sheet that was read: the six numbers, the pattern last (02 k), and the data
 --   noLine        the line of a refusal: number and places
 --   lineFrom      the line of an outcome
 --   dataBytes     how many bytes of data a plan has
@@ -46,7 +46,7 @@ abbrev pub noWord : List ℕ
 noWord = 110 ∷ 111 ∷ []
 
 unfoldable pub numbers : Report → List ℕ
-numbers r = field (r .cells) ++ field (r .top) ++ field (r .left) ++ field (r .height) ++ field (r .width)
+numbers r = field (r .cells) ++ field (r .top) ++ field (r .left) ++ field (r .height) ++ field (r .width) ++ field (r .pattern)
 
 unfoldable pub okLine : Report → List ℕ → List ℕ
 okLine r bits = okWord ++ numbers r ++ dataField bits ++ (newline ∷ [])

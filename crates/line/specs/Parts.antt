@@ -13,8 +13,8 @@ pub record DataSize (plan : List ℕ) (r : ℕ) : Type 0 where
   pub most : r ≤ 44672
   pub right : Accepted plan → r ≡ dataBytes plan
 
--- a line is at most 128 bytes and two for each byte of data
+-- 160 bytes, and two for each byte of data, are enough for a line: a word, six fields of at most 21 bytes, a space and a newline are 130 bytes
 pub record Room (input sheet bits out : List ℕ) : Type 0 where
   pub sheet-room : length input ≤ length sheet
   pub bits-room : 44672 ≤ length bits
-  pub out-room : 89472 ≤ length out
+  pub out-room : 89504 ≤ length out

@@ -19,17 +19,18 @@ fn put_word(out: &mut [u8], a: u8, b: u8) -> usize
     put_byte(out, m, b)
 }
 
-// The five numbers of a report.
+// The six numbers of a report: each field is at most 21 bytes, a space and 20 digits.
 fn put_numbers(out: &mut [u8], n: usize, r: Report) -> usize
-    requires { ⌜ n + 105 ≤ length (now out) ⌝ }
+    requires { ⌜ n + 126 ≤ length (now out) ⌝ }
     ensures { λ e. ⌜ Put (now (out .entry)) n (numbers r) (now (out .exit)) e ⌝ }
-    ensures { λ e. ⌜ e ≤ n + 105 ⌝ }
+    ensures { λ e. ⌜ e ≤ n + 126 ⌝ }
 {
     let a = put_field(out, n, r.cells);
     let b = put_field(out, a, r.top);
     let c = put_field(out, b, r.left);
     let d = put_field(out, c, r.height);
-    put_field(out, d, r.width)
+    let e = put_field(out, d, r.width);
+    put_field(out, e, r.pattern)
 }
 
 // The data, where there is any.
@@ -47,7 +48,7 @@ fn put_data(out: &mut [u8], n: usize, bits: &[u8]) -> usize
 
 // The line of a sheet that was read.
 pub fn put_ok(out: &mut [u8], r: Report, bits: &[u8]) -> usize
-    requires { ⌜ 128 + 2 * length (now bits) ≤ length (now out) ⌝ }
+    requires { ⌜ 160 + 2 * length (now bits) ≤ length (now out) ⌝ }
     ensures { λ e. ⌜ Put (now (out .entry)) 0 (okLine r (now (bits .entry))) (now (out .exit)) e ⌝ }
     ensures { λ e. ⌜ e ≤ length (now (out .entry)) ⌝ }
 {
@@ -59,7 +60,7 @@ pub fn put_ok(out: &mut [u8], r: Report, bits: &[u8]) -> usize
 
 // The line of a refusal.
 pub fn put_no(out: &mut [u8], v: Verdict) -> usize
-    requires { ⌜ 128 ≤ length (now out) ⌝ }
+    requires { ⌜ 160 ≤ length (now out) ⌝ }
     ensures { λ e. ⌜ Put (now (out .entry)) 0 (noLine v) (now (out .exit)) e ⌝ }
     ensures { λ e. ⌜ e ≤ length (now (out .entry)) ⌝ }
 {

@@ -16,16 +16,16 @@ use layout::stored::Layout;
 use reader::read::read;
 use reader::search::Search;
 
-// Room for the longest line.
-pub fn line_buffer() -> [u8; 89472]
-    ensures { λ r. ⌜ 89472 ≡ length r ⌝ }
+// Room for the longest line: 160 bytes, and two for each of 44,672 bytes of data.
+pub fn line_buffer() -> [u8; 89504]
+    ensures { λ r. ⌜ 89504 ≡ length r ⌝ }
 {
-    [0; 89472]
+    [0; 89504]
 }
 
 // The read of one sheet, and its line.
 fn read_line(by: Search, plan: &[u8], sheet: &mut [u8], bits: &mut [u8], out: &mut [u8]) -> usize
-    requires { ⌜ 128 + 2 * length (now bits) ≤ length (now out) ⌝ }
+    requires { ⌜ 160 + 2 * length (now bits) ≤ length (now out) ⌝ }
     ensures { λ r. ⌜ Put (now (out .entry)) 0 (lineFrom (readOutcome (now (plan .entry)) (now (sheet .entry)) (now (bits .entry)))) (now (out .exit)) r ⌝ }
     ensures { λ r. ⌜ r ≤ length (now (out .entry)) ⌝ }
 {

@@ -3,7 +3,7 @@
 --   first-verdict, first-report   where some burst has the two sums: number 0, and the report of its cells
 --   first-nothing                 where none has: Nothing
 --   first-has                     number 0 says that some burst has
---   found-for                     a burst with its cells, or none where there is none, has its number, places and five numbers
+--   found-for                     a burst with its cells, or none where there is none, has its number, places and six numbers
 --   first-found                   the first burst by trial is such an answer itself
 --
 -- Assumes nothing.

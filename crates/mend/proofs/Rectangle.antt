@@ -3,28 +3,30 @@
 --   box-report              the report of the cells of a pattern number is `boxReport`
 --   found-report            so that is the report of a burst that was found
 --   line-row, line-column   the lines of the rectangle, as the code tries them, are its rows and columns
---   first-past              the first line with a cell is not after the last
+--   first-past              the first line with a cell is not after the last, and neither is past the lines
 --   lines-none, lines-report   `boxReport` from its numbers
 --
 -- Assumes nothing.
 use mathlib.Core.Path.{_≡_, refl, sym, ap, ap₂, _∙_}
-use mathlib.Core.Bool.{Bool, true, _&&_}
+use mathlib.Core.Bool.{Bool, true}
 use Prim.Native.Nat.{ℕ, zero, suc, _+_, _-_, _*_, _/_, _%_, _≤_, _<_}
 use native.Mathlib.Nat.{mul-one, mod-lt, div-lt-iff-lt-mul, div-add-mod', lt-suc-self, add-zero, add-suc}
 use native.Mathlib.Omega.{arith}
 use borrow.Author.Tests.{eq-eqb, ne-eqb}
 use Rattle.finite.specs.Search.{bit, anyBelow, countBelow, firstOf, pastOf}
-use Rattle.finite.proofs.Truth.{Truth, is-true, is-false, true-or-false, not-true, in-within}
-use Rattle.finite.proofs.Search.{any-found, any-here, any-none, any-equal, first-is, first-none, past-above}
+use Rattle.finite.proofs.Truth.{Truth, is-true, is-false, true-or-false, not-true}
+use Rattle.finite.proofs.Search.{any-found, any-here, any-none, any-equal, first-is, first-none, past-le, past-above}
 use Rattle.finite.proofs.Count.{count-equal, count-none, count-rise}
+use Rattle.finite.proofs.Digits.{number-equal}
 use Rattle.boxcode.specs.Code.{Code, Formed}
 use Rattle.boxcode.specs.Syndrome.{Cells}
-use Rattle.boxcode.specs.Burst.{Inside, boxCells, burstFor}
+use Rattle.boxcode.specs.Burst.{Inside, boxCells, boxNumber, burstFor}
 use Rattle.boxcode.specs.Reader.{cellCount, rowTouched, columnTouched, reportOf, noReport}
 use Rattle.boxcode.proofs.Trial.{box-inside}
-use Rattle.boxcode.proofs.Report.{cells-flat, cells-none, cells-some, report-cells, report-none}
+use Rattle.boxcode.proofs.Trial as boxed
+use Rattle.boxcode.proofs.Report.{run-on, box-place, cells-flat, cells-none, cells-some, report-cells, report-none}
 use Rattle.mend.specs.Found.{IsBurst}
-use Rattle.mend.specs.Report.{boxReport, reportAs, anyOf, lineHas}
+use Rattle.mend.specs.Report.{partDigit, partNumber, boxReport, reportAs, anyOf, lineHas}
 use Rattle.mend.proofs.Runs.{Run, run-any, run-count, run-first, run-past}
 
 -- ---- the number of cells, by rows
@@ -53,11 +55,8 @@ module _ (n m top left b1 b2 x : ℕ) (rows : top + b1 ≤ n) (columns : left + 
   inside = box-inside top left b1 b2 x
 
   box-cell : (r d : ℕ) → r < b1 → d < b2 → e (top + r) (left + d) ≡ bit x (r * b2 + d)
-  unfolding e boxCells
-  box-cell r d lr ld =
-      ap₂ _&&_ (in-within top b1 (top + r) (omega arith) (omega arith))
-      (ap₂ _&&_ (in-within left b2 (left + d) (omega arith) (omega arith))
-      (ap₂ (λ (y z : ℕ). bit x (y * b2 + z)) (let q : top + r - top ≡ r = omega arith in q) (let q : left + d - left ≡ d = omega arith in q)))
+  unfolding e
+  box-cell r d lr ld = boxed.box-cell top left b1 b2 x r d lr ld
 
   row-run : (r : ℕ) → r < b1 → Run m left b2 (e (top + r)) (λ d. bit x (r * b2 + d))
   row-run r lr = record {
@@ -172,6 +171,36 @@ module _ (c : Code) (top left b1 b2 x : ℕ) (pos : 0 < b2) (rows : top + b1 ≤
   size-moved : (a f g f' g' : ℕ) → f ≡ a + f' → g ≡ a + g' → g - f ≡ g' - f'
   size-moved a f g f' g' p q = omega arith
 
+  -- the cells in a smaller rectangle, that of the first and the last line with a cell
+  box-part : (t l h w : ℕ) → t ≡ top + firstOf b1 rowHas → l ≡ left + firstOf b2 columnHas → h ≡ pastOf b1 rowHas - firstOf b1 rowHas
+      → w ≡ pastOf b2 columnHas - firstOf b2 columnHas
+      → boxNumber t l h w cells
+      ≡ partNumber b2 (firstOf b1 rowHas) (firstOf b2 columnHas) (pastOf b1 rowHas - firstOf b1 rowHas) (pastOf b2 columnHas - firstOf b2 columnHas) x
+  unfolding boxNumber partNumber partDigit cells e
+  box-part t l h w et el eh ew =
+      (λ i. boxNumber (et i) (el i) (eh i) (ew i) cells)
+      ∙ number-equal (m * n) (λ k. cells (top + row + k / n) (left + column + k % n)) (partDigit b2 row column n x)
+      (λ k lk.
+      let p = box-place m n k lk in
+      let a : top + row + k / n ≡ top + (row + k / n) = omega arith in
+      let b : left + column + k % n ≡ left + (column + k % n) = omega arith in
+      let u : row + m ≤ b1 = run-on b1 rowHas in
+      let v : column + n ≤ b2 = run-on b2 columnHas in
+      ap₂ cells a b
+      ∙ box-cell (c .n1) (c .n2) top left b1 b2 x rows columns (row + k / n) (column + k % n) (omega arith) (omega arith))
+    where
+      row : ℕ
+      row = firstOf b1 rowHas
+
+      column : ℕ
+      column = firstOf b2 columnHas
+
+      m : ℕ
+      m = pastOf b1 rowHas - row
+
+      n : ℕ
+      n = pastOf b2 columnHas - column
+
   pub box-report : reportOf c (boxCells top left b1 b2 x) ≡ boxReport top left b1 b2 x
   unfolding boxReport cells count
   box-report = go (true-or-false (anyBelow (b1 * b2) (bit x)))
@@ -192,13 +221,16 @@ module _ (c : Code) (top left b1 b2 x : ℕ) (pos : 0 < b2) (rows : top + b1 ≤
           let pr = run-past (c .n1) top b1 (rowTouched c cells) rowHas rows-run ar in
           let fc = run-first (c .n2) left b2 (columnTouched c cells) columnHas columns-run ac in
           let pc = run-past (c .n2) left b2 (columnTouched c cells) columnHas columns-run ac in
+          let eh = size-moved top _ _ _ _ fr pr in
+          let ew = size-moved left _ _ _ _ fc pc in
           rw (ne-eqb count 0 (count-some (w .0) (w .1) (w .2)))
           (unfold reportOf in λ i. record {
             cells = cells-count i;
             top = fr i;
             left = fc i;
-            height = size-moved top _ _ _ _ fr pr i;
-            width = size-moved left _ _ _ _ fc pc i;
+            height = eh i;
+            width = ew i;
+            pattern = box-part _ _ _ _ fr fc eh ew i;
           })
 
 pub found-report : (c : Code) → Formed c → (v s top left x : ℕ) → IsBurst c v s top left x → reportOf c (burstFor c v s) ≡ boxReport top left (c .b1) (c .b2) x
@@ -208,8 +240,8 @@ found-report c F v s top left x b =
 
 -- ---- as the code finds it
 
-pub first-past : (n f g : ℕ) (p : ℕ → Bool) → f ≡ firstOf n p → g ≡ pastOf n p → (f ≤ g) × (f ≤ n)
-first-past n f g p ef eg = let l = go (true-or-false (anyBelow n p)) in omega arith
+pub first-past : (n f g : ℕ) (p : ℕ → Bool) → f ≡ firstOf n p → g ≡ pastOf n p → (f ≤ g) × (f ≤ n) × (g ≤ n)
+first-past n f g p ef eg = let l = go (true-or-false (anyBelow n p)) in let m = past-le n p in omega arith
   where
     go : Truth (anyBelow n p) → (firstOf n p ≤ pastOf n p) × (firstOf n p ≤ n)
     go (is-true t) =
@@ -224,11 +256,19 @@ module _ (top left b1 b2 x : ℕ) where
   unfolding boxReport
   lines-none e = rw (eq-eqb (countBelow (b1 * b2) (bit x)) 0 e)
 
-  pub lines-report : (cells row column past-row past-column : ℕ) → cells ≡ countBelow (b1 * b2) (bit x) → (cells ≡ 0 → ⊥)
+  pub lines-report : (cells row column past-row past-column pattern : ℕ) → cells ≡ countBelow (b1 * b2) (bit x) → (cells ≡ 0 → ⊥)
       → row ≡ firstOf b1 (lineHas x b2 1 b2) → column ≡ firstOf b2 (lineHas x 1 b2 b1)
       → past-row ≡ pastOf b1 (lineHas x b2 1 b2) → past-column ≡ pastOf b2 (lineHas x 1 b2 b1)
-      → record { cells = cells; top = top + row; left = left + column; height = past-row - row; width = past-column - column }
+      → pattern ≡ partNumber b2 row column (past-row - row) (past-column - column) x
+      → record {
+        cells = cells;
+        top = top + row;
+        left = left + column;
+        height = past-row - row;
+        width = past-column - column;
+        pattern = pattern;
+      }
       ≡ reportAs (boxReport top left b1 b2 x)
   unfolding boxReport
-  lines-report cells row column past-row past-column e ne er ec pr pc =
-      rw (ne-eqb (countBelow (b1 * b2) (bit x)) 0 (λ z. ne (e ∙ z)), e, er, ec, pr, pc)
+  lines-report cells row column past-row past-column pattern e ne er ec pr pc en =
+      rw (ne-eqb (countBelow (b1 * b2) (bit x)) 0 (λ z. ne (e ∙ z)), en, e, er, ec, pr, pc)

@@ -8,6 +8,7 @@
 --   digitsFrom, digits-start, -more, -all, -below   a number by its digits, from the highest on
 --   first-found, past-here, past-before   lines tried in turn, from the first on and from the last back
 --   small-burst, box-size   the sizes of a burst: at most 16 places
+--   part-size, PartPlace, part-place   those of a smaller rectangle in it, and the place of its digit k
 --
 -- Assumes nothing.
 use mathlib.Core.Path.{_≡_, refl, sym, ap, ap₂, _∙_}
@@ -34,6 +35,8 @@ use Rattle.finite.proofs.Search.{First, any-here, first-is}
 use Rattle.plan.specs.declared.header.Header.{Header}
 use Rattle.plan.specs.Header.{Small}
 use Rattle.mend.specs.Strip.{BurstSize}
+use Rattle.mend.specs.Report.{Part}
+use Rattle.boxcode.proofs.Report.{box-place}
 
 -- ---- digits
 
@@ -143,3 +146,21 @@ small-burst s = record { b1-pos = s .b1-pos; b1-most = s .b1-most; b2-pos = s .b
 
 pub box-size : {b1 b2 : ℕ} → BurstSize b1 b2 → b1 * b2 ≤ 16
 box-size b = mul-le-mul (b .b1-most) (b .b2-most)
+
+pub part-size : {b2 row column height width : ℕ} → Part b2 row column height width → height * width ≤ 16
+part-size {b2} {row} {column} {height} {width} p =
+    let m : height ≤ 4 = omega (arith, p .rows-in) in
+    let n : width ≤ 4 = omega (arith, p .columns-in, p .columns-most) in
+    mul-le-mul m n
+
+pub record PartPlace (b2 row column width k : ℕ) : Type 0 where
+  pub wide : 0 < width
+  pub row-most : row + k / width ≤ 3
+  pub start-most : (row + k / width) * b2 ≤ 12
+  pub column-most : column + k % width ≤ 3
+
+pub part-place : {b2 row column height width : ℕ} → Part b2 row column height width → (k : ℕ) → k < height * width → PartPlace b2 row column width k
+part-place {b2} {row} {column} {height} {width} p k l =
+    let q = box-place height width k l in
+    let a : row + k / width ≤ 3 = omega (arith, p .rows-in) in
+    record { wide = omega arith; row-most = a; start-most = mul-le-mul a (p .columns-most); column-most = omega (arith, p .columns-in, p .columns-most) }

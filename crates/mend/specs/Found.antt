@@ -1,11 +1,11 @@
 -- What the search for a burst answers, and what each of its two cases is in document 01.
 --
 --   foundVerdict       the number and the places: 0 at 0, 0 for a burst, 14 at 0, 0 for none
---   foundReport        the five numbers: those of the burst's cells, or five zeros
+--   foundReport        the six numbers: those of the burst's cells, or six zeros
 --   firstBurst c v s   the first burst by trial whose V sum is v and whose H sum is s, or Nothing
 --   IsBurst            a pattern number in a rectangle on the sheet has the cells of that burst
 --   BurstOrNone        an answer of the search is that burst, or there is none
---   FoundFor c v s r   r has the number, the places and the five numbers of the first burst by trial, and its cells
+--   FoundFor c v s r   r has the number, the places and the six numbers of the first burst by trial, and its cells
 use Prim.Native.Nat.{ℕ, _+_, _*_, _^_, _≤_, _<_}
 use mathlib.Core.Path.{_≡_}
 use mathlib.Core.Bool.{true, false, cond}

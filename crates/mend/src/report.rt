@@ -1,10 +1,10 @@
-// The report of a burst: how many cells it has, and the smallest rectangle that holds them; five zeros where there are none.
+// The report of a burst: how many cells it has, the smallest rectangle that holds them, and their pattern in it; six zeros where there are none.
 ghost use mathlib.Core.Path.{_≡_};
 ghost use mathlib.Core.Bool.{cond};
 ghost use Prim.Native.Nat.{_*_, _≤_, _<_};
 ghost use Rattle.finite.specs.Search.{bit, countBelow, firstOf, pastOf};
 ghost use Rattle.mend.specs.Strip.{BurstSize};
-ghost use Rattle.mend.specs.Report.{Lines, anyOf, lineHas, boxReport, reportAs};
+ghost use Rattle.mend.specs.Report.{Lines, Part, anyOf, lineHas, partNumber, boxReport, reportAs};
 
 pub struct Report {
     pub cells: usize,
@@ -12,6 +12,7 @@ pub struct Report {
     pub left: usize,
     pub height: usize,
     pub width: usize,
+    pub pattern: usize,
 }
 
 // Digit k of x.
@@ -83,6 +84,20 @@ fn past_line(x: u64, jump: usize, step: usize, count: usize, lines: usize) -> us
     0
 }
 
+// The number of the pattern in a smaller rectangle, at a row and a column of one with b2 columns: digit r × width + s of it is that of row r and column s.
+fn part_number(x: u64, b2: usize, row: usize, column: usize, height: usize, width: usize) -> usize
+    requires { ⌜ Part b2 row column height width ⌝ }
+    ensures { λ r. ⌜ r ≡ partNumber b2 row column height width x ⌝ }
+{
+    let mut y = 0;
+    let mut k = height * width;
+    while 0 < k {
+        k -= 1;
+        y = 2 * y + digit(x, (row + k / width) * b2 + (column + k % width));
+    }
+    y
+}
+
 // The report of pattern number x in the rectangle of b1 rows and b2 columns at a top row and a left column.
 pub fn report_of(top: usize, left: usize, b1: usize, b2: usize, x: u64) -> Report
     requires { ⌜ BurstSize b1 b2 ⌝ }
@@ -97,17 +112,21 @@ pub fn report_of(top: usize, left: usize, b1: usize, b2: usize, x: u64) -> Repor
             left: 0,
             height: 0,
             width: 0,
+            pattern: 0,
         };
     }
     let row = first_line(x, b2, 1, b2, b1);
     let column = first_line(x, 1, b2, b1, b2);
     let past_row = past_line(x, b2, 1, b2, b1);
     let past_column = past_line(x, 1, b2, b1, b2);
+    let height = past_row - row;
+    let width = past_column - column;
     Report {
         cells,
         top: top + row,
         left: left + column,
-        height: past_row - row,
-        width: past_column - column,
+        height,
+        width,
+        pattern: part_number(x, b2, row, column, height, width),
     }
 }

@@ -11,3 +11,5 @@ pub mod Alter
 pub mod TwoScans
 pub mod Difference
 pub mod Stack
+pub mod Sound
+pub mod PutBack

@@ -18,7 +18,7 @@ use Rattle.boxcode.specs.Check.{dataSize, written}
 use Rattle.boxcode.specs.Reader.{Report, reportOf}
 use Rattle.boxcode.proofs.Burst.{burst-on, burst-none}
 use Rattle.boxcode.proofs.Fill.{data-cells}
-use Rattle.boxcode.proofs.Report.{report-inside, report-least, report-none}
+use Rattle.boxcode.proofs.Report.{report-inside, report-least, report-bit, report-below, report-none}
 use Rattle.boxcode.proofs.Theorems.{at-most-one, written-data, written-only}
 use Rattle.plan.specs.declared.verdict.Verdict.{Verdict}
 use Rattle.plan.specs.Verdict.{accepted}
@@ -166,5 +166,7 @@ reports plan e B =
       holds = report-inside (codeOf plan) e on;
       least = λ i j t top left height width h.
           report-least (codeOf plan) top left height width e h i j (on .rows i j t) (on .columns i j t) t;
+      pattern = λ i j li lj. report-bit (codeOf plan) e i j li lj;
+      pattern-below = report-below (codeOf plan) e;
       none = λ h. report-none (codeOf plan) e (λ i j li lj. h i j);
     }

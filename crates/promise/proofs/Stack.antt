@@ -28,8 +28,9 @@ use Rattle.stack.proofs.Passing.{StackFits, stack-zero, stacks-pass}
 use Rattle.stack.proofs.Each.{told-as, stack-refuses, stack-reads, frame-stays, sheet-after, numbers-after, bits-after, same-checks}
 use Rattle.reader.proofs.Left.{OneOf, read-keeps}
 use Rattle.stack.proofs.Alone.{alone-lengths, alone-told}
-use Rattle.stack.proofs.Numbers.{at-number, at-p, at-q, at-cells, at-top, at-left, at-height, at-width}
-use Rattle.sheet.proofs.Ranges.{FiveFit, read-fits, report-fits}
+use Rattle.stack.proofs.Numbers.{at-number, at-p, at-q, at-cells, at-top, at-left, at-height, at-width, at-pattern}
+use Rattle.packing.proofs.Packed.{ReportFits}
+use Rattle.sheet.proofs.Ranges.{read-fits, report-fits}
 use Rattle.promise.specs.Promise.{Passes, DataFor, BurstOn, corrupted, readAs}
 use Rattle.promise.specs.Stack as promise
 use Rattle.promise.specs.Stack.{toldOf, after, SheetRead, Tells, SameRoom}
@@ -108,7 +109,7 @@ as-alone plan l e i li = record {
 }
 
 -- numbers that are small enough are told by two bytes each
-told-small : (o : Outcome) → SmallVerdict (o .verdict) → FiveFit (o .report) → OneOf (o .verdict .number) → Tells (numberBytes o) o
+told-small : (o : Outcome) → SmallVerdict (o .verdict) → ReportFits (o .report) → OneOf (o .verdict .number) → Tells (numberBytes o) o
 told-small o S R w = record {
   number = at-number o (omega (arith, S .number-fits));
   p = at-p o (omega (arith, S .p-fits));
@@ -118,6 +119,7 @@ told-small o S R w = record {
   left = at-left o (omega (arith, R .left-fits));
   height = at-height o (omega (arith, R .height-fits));
   width = at-width o (omega (arith, R .width-fits));
+  pattern = at-pattern o (R .pattern-fits);
   which = w;
 }
 

@@ -1,15 +1,16 @@
 -- The 64 bits that a host sees: from the answer of each call, for every input, good or bad, each getter takes out its field.
 -- The getters are the shifts and masks of docs/ANSWER.md. Each theorem is proved under its name in proofs/Answer.antt.
 --
---   PlanCarries    the test of a plan: the number and the places of its verdict, and five zeros
+--   PlanCarries    the test of a plan: the number and the places of its verdict, and six zeros
 --   MakeCarries    making a plan: likewise
 --   WriteCarries   writing, in either layout: likewise
---   ReadCarries    reading, in either layout: the number, the places and the reader's five numbers
---   TurnCarries    turning a sheet into the other layout: the number and the places of its verdict, and five zeros
---   SumsCarries    asking for the sums of a run: the number and the places of its verdict, and five zeros
+--   ReadCarries    reading, in either layout: the number, the places and the reader's six numbers
+--   TurnCarries    turning a sheet into the other layout: the number and the places of its verdict, and six zeros
+--   SumsCarries    asking for the sums of a run: the number and the places of its verdict, and six zeros
 --   AlterCarries   altering: likewise
 --   TwoCarries     reading two scans: likewise
 --   StackCarries   reading a stack: likewise
+--   PutCarries     putting a burst back: likewise
 --   DifferenceCarries   asking where two scans first differ: the byte of the second scan where the part starts, and the part's length
 use Prim.Native.Nat.{ℕ, _-_}
 use mathlib.Core.List.{List}
@@ -26,8 +27,10 @@ use Rattle.alter.specs.Alter.{alter}
 use Rattle.scans.specs.ReadTwo.{readTwo}
 use Rattle.stack.specs.ReadStack.{readStack}
 use Rattle.difference.specs.Difference.{difference}
-use Rattle.sheet.specs.Calls.{verdictFields, reportFields, planAnswer, makeCall, writeCall, readCall, sumsCall, alterCall}
-use Rattle.sheet.specs.Calls.{readTwoCall, readStackCall, differenceAnswer, turnCall}
+use Rattle.packing.specs.Packed.{reportFields}
+use Rattle.putback.specs.PutBack.{putBack}
+use Rattle.sheet.specs.Calls.{verdictFields, planAnswer, makeCall, writeCall, readCall, sumsCall, alterCall}
+use Rattle.sheet.specs.Calls.{readTwoCall, readStackCall, differenceAnswer, turnCall, putBackCall}
 
 abbrev pub PlanCarries : Type 0
 PlanCarries = (plan : List ℕ) → Carries (planAnswer plan) (verdictFields (planVerdict plan))
@@ -61,6 +64,9 @@ TwoCarries = (plan first second bits : List ℕ)
 abbrev pub StackCarries : Type 0
 StackCarries = (plan stack numbers bits : List ℕ)
     → Carries (readStackCall plan stack numbers bits .answer) (verdictFields (readStack plan stack numbers bits .verdict))
+
+abbrev pub PutCarries : Type 0
+PutCarries = (plan sheet : List ℕ) (a : ℕ) → Carries (putBackCall plan sheet a .answer) (verdictFields (putBack plan sheet a .verdict))
 
 abbrev pub DifferenceCarries : Type 0
 DifferenceCarries = (plan first second : List ℕ)

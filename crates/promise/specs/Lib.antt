@@ -9,3 +9,4 @@ pub mod Alter
 pub mod TwoScans
 pub mod Difference
 pub mod Stack
+pub mod PutBack

@@ -23,15 +23,16 @@
 --   ReadBack, ReadClean    a written sheet with one burst on it, or none, is read back whole
 --   Answers                the reader answers 14 exactly if no burst fits, and otherwise mends the sheet (Answered)
 --   OneBurst               at most one burst, as a set of cells, fits
---   Reports                the report is the number of cells and the smallest rectangle that holds them; five zeros for
---                          none (Reported)
+--   Reports                the report is the number of cells, the smallest rectangle that holds them, and their pattern in it; six zeros
+--                          for none (Reported)
 --   Turns                  what it is to turn over the cells of a burst; for the empty one, nothing (Turned)
-use Prim.Native.Nat.{ℕ, _<_}
+use Prim.Native.Nat.{ℕ, _+_, _*_, _^_, _<_}
 use mathlib.Core.Path.{_≡_}
 use mathlib.Core.Bool.{true, false, xor}
 use mathlib.Core.Logic.{_↔_, _⊎_}
 use mathlib.Core.List.{List}
 use lib.ListN.{length}
+use Rattle.finite.specs.Search.{bit}
 use Rattle.layout.specs.Cells.{rowBytes, RightForm}
 use Rattle.layout.specs.Stored.{sizeIn, cellIn, FormIn, bytesIn}
 use Rattle.layout.specs.declared.stored.Layout.{Layout}
@@ -157,7 +158,7 @@ abbrev pub ReadBack : Type 0
 ReadBack = (lay : Layout) (plan : List ℕ) → Passes plan → (bits old : List ℕ) (e : Cells) → DataFor plan bits → BurstOn plan e → BufferFor plan old
     → readIn lay plan (corruptedIn lay plan (writtenIn lay plan bits) e) old ≡ readAs (reportOf (codeOf plan) e) (writtenIn lay plan bits) bits
 
--- and where there is no burst: five zeros
+-- and where there is no burst: six zeros
 abbrev pub ReadClean : Type 0
 ReadClean = (lay : Layout) (plan : List ℕ) → Passes plan → (bits old : List ℕ) → DataFor plan bits → BufferFor plan old
     → readIn lay plan (writtenIn lay plan bits) old ≡ readAs noReport (writtenIn lay plan bits) bits
@@ -170,7 +171,7 @@ pub record Answered (lay : Layout) (plan sheet old : List ℕ) : Type 0 where
   -- the burst that fits mends the sheet to one that belongs; this sheet, its data and the burst's report are given
   pub takes : (e : Cells) → BurstOn plan e → FitsIn lay plan sheet e
       → readIn lay plan sheet old ≡ readAs (reportOf (codeOf plan) e) (corruptedIn lay plan sheet e) (heldIn lay plan (corruptedIn lay plan sheet e))
-  -- a refusal has places 0, 0 and five zeros, and changes no byte
+  -- a refusal has places 0, 0 and six zeros, and changes no byte
   pub refuses : NoneIn lay plan sheet → readIn lay plan sheet old ≡ refused (refusal 14 0 0) sheet old
 
 abbrev pub Answers : Type 0
@@ -180,13 +181,16 @@ abbrev pub OneBurst : Type 0
 OneBurst = (lay : Layout) (plan : List ℕ) → Passes plan → (sheet : List ℕ) (e e' : Cells) → BurstOn plan e → BurstOn plan e'
     → FitsIn lay plan sheet e → FitsIn lay plan sheet e' → (i j : ℕ) → e i j ≡ e' i j
 
--- ---- the five numbers, and what it is to turn cells over
+-- ---- the six numbers, and what it is to turn cells over
 
 pub record Reported (plan : List ℕ) (e : Cells) (r : Report) : Type 0 where
   pub count : r .cells ≡ cellCount (codeOf plan .n1) (codeOf plan .n2) e
   pub holds : Inside (r .top) (r .left) (r .height) (r .width) e
   -- for a burst that has a cell (i, j)
   pub least : (i j : ℕ) → e i j ≡ true → (top left height width : ℕ) → Inside top left height width e → LiesIn r top left height width
+  -- 02, request k: "the cell at row r and column s of the smallest rectangle has bit r × width + s", and there is no bit beyond
+  pub pattern : (i j : ℕ) → i < r .height → j < r .width → bit (r .pattern) (i * r .width + j) ≡ e (r .top + i) (r .left + j)
+  pub pattern-below : r .pattern < 2 ^ (r .height * r .width)
   pub none : ((i j : ℕ) → e i j ≡ false) → r ≡ noReport
 
 abbrev pub Reports : Type 0

@@ -4,7 +4,7 @@
 --   toldOf, after        the number that is told of the whole stack, and the three buffers after the call
 --   StackRules           what 02 asks of a plan, a stack and its two buffers
 --   SheetRead            sheet i after the call: read as if it were alone
---   Tells                sixteen bytes tell these eight numbers
+--   Tells                eighteen bytes tell these nine numbers
 --   SameFrame            two runs are handed the same header and buffers of the same lengths (stack/specs/ReadStack)
 --   SameRoom a           room a's sheets, and their places in both buffers, are the same in two runs
 --
@@ -13,7 +13,7 @@
 --   StackRefused         where a check fails, its number and places are told, and no byte of the three buffers changes
 --   HeaderStays          whatever happens, the header and all lengths stay
 --   AsAlone              in a stack that is taken, each sheet is read as if it were alone: a refused sheet stops no other
---   NumbersTell          and its sixteen bytes tell the refusal or 0, p, q, and the reader's five
+--   NumbersTell          and its eighteen bytes tell the refusal or 0, p, q, and the reader's six
 --   RefusedKeeps         a refused sheet keeps its bytes, and its place in the data buffer
 --   TwoRooms             what room A gets owes nothing to the bytes of room B
 --   StackBack            a written sheet with one burst on it, or none, is read back whole, whatever the other sheets are
@@ -75,6 +75,7 @@ pub record Tells (t : List ℕ) (o : Outcome) : Type 0 where
   pub left : u16At t 10 ≡ o .report .left
   pub height : u16At t 12 ≡ o .report .height
   pub width : u16At t 14 ≡ o .report .width
+  pub pattern : u16At t 16 ≡ o .report .pattern
   -- 13 and 14 are given per sheet, and no other number is
   pub which : (o .verdict .number ≡ 0) ⊎ ((o .verdict .number ≡ 13) ⊎ (o .verdict .number ≡ 14))
 
@@ -114,7 +115,7 @@ HeaderStays = (plan : List ℕ) (l : Lent) → SameFrame l (after plan l)
 abbrev pub AsAlone : Type 0
 AsAlone = (plan : List ℕ) (l : Lent) → toldOf plan l ≡ 0 → (i : ℕ) → i < sheetCount (l .stack) → SheetRead plan l i (alone plan l i)
 
--- it "gets eight 16-bit numbers: refusal or 0, p, q, then the reader's five"
+-- it "gets eight 16-bit numbers: refusal or 0, p, q, then the reader's five"; 02, request k: "Stacks then use nine numbers a sheet, the pattern last"
 abbrev pub NumbersTell : Type 0
 NumbersTell = (plan : List ℕ) (l : Lent) → toldOf plan l ≡ 0 → (i : ℕ) → i < sheetCount (l .stack)
     → Tells (numbersAt (after plan l .numbers) i) (alone plan l i)

@@ -8,7 +8,7 @@
 --   bitsRead       the data buffer after it: the data of the mended sheet
 --   reportRead     its report: the cells that were turned over
 --   Outcome        number and places, report, and both buffers after the call
---   refused        a refusal: five zeros, and both buffers as they were
+--   refused        a refusal: six zeros, and both buffers as they were
 --   taken          a success: number 0 and places 0, 0
 --   mendOutcome    what check 14 leaves, under a code, where checks 1 to 13 pass
 --   readIn         the read of one sheet

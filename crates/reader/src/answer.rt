@@ -5,7 +5,7 @@ ghost use Rattle.mend.specs.Report.{reportAs};
 use mend::report::Report;
 use plan::verdict::Verdict;
 
-// The number of document 01's table with its places, and the report: five zeros where the number is not 0.
+// The number of document 01's table with its places, and the report: six zeros where the number is not 0.
 pub struct Answer {
     pub verdict: Verdict,
     pub report: Report,
@@ -23,6 +23,7 @@ pub fn refused_as(verdict: Verdict) -> Answer
             left: 0,
             height: 0,
             width: 0,
+            pattern: 0,
         },
     }
 }

@@ -7,8 +7,9 @@
 --   alters-fit    number and places of altering
 --   two-fits      number and places of reading two scans
 --   stack-fits    number and places of reading a stack
---   report-fits   the reader's five numbers
---   plan-range, make-range, write-range, read-range, turn-range, sums-range, alter-range, two-range, stack-range
+--   puts-fit      number and places of putting a burst back
+--   report-fits   the reader's six numbers; read-none, six zeros with a refusal
+--   plan-range, make-range, write-range, read-range, turn-range, sums-range, alter-range, two-range, stack-range, put-range
 --                 the fields of the answer of each call
 --   part-range    start and length of the part in which two scans first differ
 --   made-range, made-packed   the answer of either call that makes a plan
@@ -32,7 +33,6 @@ use Rattle.boxcode.specs.Code.{Code, Formed}
 use Rattle.boxcode.specs.Check.{dataSize, belongs}
 use Rattle.boxcode.specs.Reader.{change, noReport}
 use Rattle.boxcode.proofs.Reader.{mendable, change-burst}
-use Rattle.boxcode.proofs.Report.{burst-report}
 use Rattle.plan.specs.declared.verdict.Verdict.{Verdict}
 use Rattle.plan.specs.Verdict.{refusal, verdictIf, _orElse_}
 use Rattle.plan.specs.Bytes.{codeOf}
@@ -43,7 +43,6 @@ use Rattle.buffers.specs.Buffers.{lengthVerdict, unusedVerdict, sheetLength, da
 use Rattle.buffers.specs.Buffers.{sheetChecks, lengthChecks, writeChecks, readChecks, formChecks, sumsChecks, scanLengths, readTwoChecks}
 use Rattle.buffers.specs.Buffers.{transposeChecks}
 use Rattle.buffers.proofs.Passing.{size-most, sheet-zero, length-zero, scans-fit}
-use Rattle.mend.specs.declared.report.Report.{Report}
 use Rattle.mend.specs.Report.{reportAs}
 use Rattle.mend.specs.declared.found.Found.{Found}
 use Rattle.mend.specs.declared.found.Found.the-variants.{Burst, Nothing}
@@ -65,7 +64,11 @@ use Rattle.stackform.specs.Stack.{sheetCount, stackBroken}
 use Rattle.stack.specs.ReadStack.{sheetSize, dataBytes, stackForm, stackChecks, readStack}
 use Rattle.scans.specs.ReadTwo.{TwoRead, mends, noneVerdict, differVerdict, twoRead, decide, readTwo}
 use Rattle.answer.specs.Answer.{InRange, packed}
-use Rattle.sheet.specs.Calls.{verdictFields, reportFields, makeReply, makeCall}
+use Rattle.packing.specs.Packed.{reportFields}
+use Rattle.packing.proofs.Packed.{ReportFits, none-fits, fields-range}
+use Rattle.packing.proofs.Packed as packing
+use Rattle.putback.specs.PutBack.{noBurst, burstVerdict, backChecks, putBack}
+use Rattle.sheet.specs.Calls.{verdictFields, makeReply, makeCall}
 
 -- a refusal with places 0, 0
 told-fits : (t : Bool) (n : ℕ) → n < 32 → SmallVerdict (verdictIf t (refusal n 0 0))
@@ -145,6 +148,11 @@ alters-fit plan sheet d =
     (λ _. else-fits (positionVerdict k d) _ (told-fits (leb k d) 17 (omega arith))
     (λ _. told-fits (not (belongs (codeOf plan) (cellOf (codeOf plan .n2) sheet))) 18 (omega arith)))
 
+pub puts-fit : (plan sheet : List ℕ) (a : ℕ) → SmallVerdict (backChecks plan sheet a)
+unfolding backChecks burstVerdict
+puts-fit plan sheet a =
+    else-fits (formChecks plan sheet) _ (forms-fit plan sheet) (λ _. told-fits (noBurst (codeOf plan) a) 22 (omega arith))
+
 -- checks 1 to 11 of two scans, and then others
 after-scans : (plan first second : List ℕ) (v : Verdict) → (Formed (codeOf plan) → SmallVerdict v) → SmallVerdict (scanLengths plan first second orElse v)
 unfolding scanLengths
@@ -211,53 +219,35 @@ read-fits lay plan sheet bits =
     go true f = accepted-fits
     go false f = f
 
--- the five numbers fit their bits
-pub record FiveFit (r : Report) : Type 0 where
-  pub cells-fits : r .cells < 32
-  pub top-fits : r .top < 512
-  pub left-fits : r .left < 1024
-  pub height-fits : r .height < 8
-  pub width-fits : r .width < 8
-
-none-fits : FiveFit (reportAs noReport)
-none-fits = record { cells-fits = omega arith; top-fits = omega arith; left-fits = omega arith; height-fits = omega arith; width-fits = omega arith }
-
-burst-fits : (lay : Layout) (c : Code) → Formed c → (sheet : List ℕ) → mendable c (cellIn lay (c .n1) (c .n2) sheet) ≡ true → FiveFit (reportRead lay c sheet)
+burst-fits : (lay : Layout) (c : Code) → Formed c → (sheet : List ℕ) → mendable c (cellIn lay (c .n1) (c .n2) sheet) ≡ true
+    → ReportFits (reportRead lay c sheet)
 unfolding reportRead burstIn mendable change
 burst-fits lay c F sheet e =
-    let s = burst-report c F (change c (cellIn lay (c .n1) (c .n2) sheet)) (change-burst c F (cellIn lay (c .n1) (c .n2) sheet) e) in
-    rw (first-report c _ _ e) record {
-      cells-fits = omega (arith, s .cells-most);
-      top-fits = omega (arith, s .top-on, F .n1-most);
-      left-fits = omega (arith, s .left-on, F .n2-most);
-      height-fits = omega (arith, s .height-most, F .b1-most);
-      width-fits = omega (arith, s .width-most, F .b2-most);
-    }
+    let s = cellIn lay (c .n1) (c .n2) sheet in
+    rw (first-report c _ _ e) (packing.burst-fits c F (change c s) (change-burst c F s e))
 
-pub report-fits : (lay : Layout) (plan sheet bits : List ℕ) → FiveFit (readIn lay plan sheet bits .report)
+pub report-fits : (lay : Layout) (plan sheet bits : List ℕ) → ReportFits (readIn lay plan sheet bits .report)
 unfolding readIn
 report-fits lay plan sheet bits = go (eqb (readVerdict lay plan sheet bits .number) 0) refl
   where
     go : (t : Bool) → eqb (readVerdict lay plan sheet bits .number) 0 ≡ t
-        → FiveFit (cond t (taken lay (codeOf plan) sheet) (refused (readVerdict lay plan sheet bits) sheet bits) .report)
+        → ReportFits (cond t (taken lay (codeOf plan) sheet) (refused (readVerdict lay plan sheet bits) sheet bits) .report)
     go true e =
         let z = zero-reads lay plan sheet bits (eqb-true (readVerdict lay plan sheet bits .number) 0 e) in
         burst-fits lay (codeOf plan) (z .0 .lengths .accepted .formed) sheet (z .1)
     go false e = none-fits
 
--- ---- the fields of an answer
+pub read-none : (lay : Layout) (plan sheet bits : List ℕ) → let o = readIn lay plan sheet bits in
+    (o .verdict .number ≡ 0 → ⊥) → o .report ≡ reportAs noReport
+unfolding readIn
+read-none lay plan sheet bits = go (eqb (readVerdict lay plan sheet bits .number) 0)
+  where
+    go : (t : Bool) → let o = cond t (taken lay (codeOf plan) sheet) (refused (readVerdict lay plan sheet bits) sheet bits) in
+        (o .verdict .number ≡ 0 → ⊥) → o .report ≡ reportAs noReport
+    go true h = absurd (h refl)
+    go false h = refl
 
-fields-range : (v : Verdict) (r : Report) → SmallVerdict v → FiveFit r → InRange (reportFields v r)
-fields-range v r f g = record {
-  number-fits = f .number-fits;
-  p-fits = f .p-fits;
-  q-fits = f .q-fits;
-  cells-fits = g .cells-fits;
-  top-fits = g .top-fits;
-  left-fits = g .left-fits;
-  height-fits = g .height-fits;
-  width-fits = g .width-fits;
-}
+-- ---- the fields of an answer
 
 pub plan-range : (plan : List ℕ) → InRange (verdictFields (planVerdict plan))
 plan-range plan = fields-range (planVerdict plan) (reportAs noReport) (plan-fits plan) none-fits
@@ -304,6 +294,10 @@ pub read-range : (lay : Layout) (plan sheet bits : List ℕ)
 read-range lay plan sheet bits =
     let o = readIn lay plan sheet bits in
     fields-range (o .verdict) (o .report) (read-fits lay plan sheet bits) (report-fits lay plan sheet bits)
+
+pub put-range : (plan sheet : List ℕ) (a : ℕ) → InRange (verdictFields (putBack plan sheet a .verdict))
+unfolding putBack
+put-range plan sheet a = fields-range (backChecks plan sheet a) (reportAs noReport) (puts-fit plan sheet a) none-fits
 
 pub record PartFits (p : Part) : Type 0 where
   pub ordered : p .start ≤ p .end

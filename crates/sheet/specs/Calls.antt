@@ -1,7 +1,6 @@
 -- What the exported calls answer, and what they leave in the buffers lent to them.
 --
 --   verdictFields   an answer that has a number and places alone
---   reportFields    an answer of the reader
 --   planAnswer      the answer of the test of a plan: checks 1 to 10 in order, the first that fails, packed
 --   parameters      the eight numbers that the maker is given: v and h are the coefficients below the degrees rv and rh
 --   MakeReply, makeCall     the answer of making a plan, packed, and every byte of the plan after it
@@ -13,12 +12,12 @@
 --   ReadTwoReply, readTwoCall   the answer of reading two scans, packed, and every byte of the data buffer after it
 --   differenceAnswer        the row where two scans first differ, packed: the byte of the second scan where it starts, and its length
 --   ReadStackReply, readStackCall   the answer of reading a stack, packed, and every byte of the stack, the numbers and the data buffer after it
+--   PutBackReply, putBackCall       the answer of putting a burst back, packed, and every byte of the sheet after it
 use Prim.Native.Nat.{ℕ, _-_}
 use mathlib.Core.List.{List}
 use Rattle.layout.specs.declared.stored.Layout.{Layout}
 use Rattle.answer.specs.Answer.{Fields, placesFields, packed, packedPart}
 use Rattle.plan.specs.declared.verdict.Verdict.{Verdict}
-use Rattle.mend.specs.declared.report.Report.{Report}
 use Rattle.accept.specs.Verdict.{planVerdict}
 use Rattle.maker.specs.declared.parameters.Parameters.{Parameters}
 use Rattle.maker.specs.Make.{make}
@@ -30,21 +29,11 @@ use Rattle.alter.specs.Alter.{alter}
 use Rattle.scans.specs.ReadTwo.{readTwo}
 use Rattle.stack.specs.ReadStack.{Lent, readStack}
 use Rattle.difference.specs.Difference.{difference}
+use Rattle.packing.specs.Packed.{reportFields}
+use Rattle.putback.specs.PutBack.{putBack}
 
 abbrev pub verdictFields : Verdict → Fields
 verdictFields v = placesFields (v .number) (v .p) (v .q)
-
-abbrev pub reportFields : Verdict → Report → Fields
-reportFields v r = record {
-  number = v .number;
-  p = v .p;
-  q = v .q;
-  cells = r .cells;
-  top = r .top;
-  left = r .left;
-  height = r .height;
-  width = r .width;
-}
 
 unfoldable pub planAnswer : List ℕ → ℕ
 planAnswer s = packed (verdictFields (planVerdict s))
@@ -153,3 +142,16 @@ readStackCall plan stack numbers bits =
 
 abbrev pub readStackReply : ℕ → Lent → ReadStackReply
 readStackReply a l = record { answer = a; left = l }
+
+pub record PutBackReply : Type 0 where
+  pub answer : ℕ
+  pub sheet : List ℕ
+
+-- a is the answer of the reader that is handed in
+unfoldable pub putBackCall : (plan sheet : List ℕ) → ℕ → PutBackReply
+putBackCall plan sheet a =
+    let o = putBack plan sheet a in
+    record { answer = packed (verdictFields (o .verdict)); sheet = o .sheet }
+
+abbrev pub putBackReply : ℕ → List ℕ → PutBackReply
+putBackReply a s = record { answer = a; sheet = s }

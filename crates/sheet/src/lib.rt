@@ -4,13 +4,11 @@ ghost use mathlib.Core.Path.{_≡_};
 ghost use Rattle.houseplan.specs.HousePlan.{houseParameters};
 ghost use Rattle.sheet.specs.Calls.{planAnswer, parameters, makeReply, makeCall, writeReply, writeCall, readReply, readCall};
 ghost use Rattle.sheet.specs.Calls.{sumsReply, sumsCall, alterReply, alterCall, readTwoReply, readTwoCall, differenceAnswer};
-ghost use Rattle.sheet.specs.Calls.{readStackReply, readStackCall, turnReply, turnCall};
+ghost use Rattle.sheet.specs.Calls.{readStackReply, readStackCall, turnReply, turnCall, putBackReply, putBackCall};
 ghost use Rattle.layout.specs.declared.stored.Layout.the-variants.{ByRow, ByColumn};
 ghost use Rattle.stack.specs.ReadStack.{lent};
 use accept::test::test;
 use alter::altering::alter;
-use answer::Answer;
-use answer::pack;
 use answer::pack_part;
 use answer::pack_places;
 use difference::differing_part;
@@ -18,6 +16,8 @@ use houseplan::make_house;
 use layout::stored::Layout;
 use maker::making::make;
 use maker::parameters::Parameters;
+use packing::pack_report;
+use putback::putting::put_back;
 use reader::read::read;
 use reader::search::Search;
 use runsums::sum_run;
@@ -103,18 +103,7 @@ fn read_packed(by: Search, lay: Layout, plan: &[u8], sheet: &mut [u8], bits: &mu
     ensures { λ r. ⌜ readReply r (now (sheet .exit)) (now (bits .exit)) ≡ readCall lay (now (plan .entry)) (now (sheet .entry)) (now (bits .entry)) ⌝ }
 {
     let a = read(by, lay, plan, sheet, bits);
-    let v = a.verdict;
-    let r = a.report;
-    pack(Answer {
-        number: v.number,
-        p: v.p,
-        q: v.q,
-        cells: r.cells,
-        top: r.top,
-        left: r.left,
-        height: r.height,
-        width: r.width,
-    })
+    pack_report(a.verdict, a.report)
 }
 
 // Reads a sheet: mends it in place, writes its data, and tells which cells were turned over.
@@ -209,7 +198,7 @@ pub extern "C" fn sheet_first_difference(plan: &[u8], first: &[u8], second: &[u8
     pack_part(part.start, part.end - part.start)
 }
 
-// Reads a stack of sheets under one plan, from two rooms: each sheet as if it were alone, with its eight numbers.
+// Reads a stack of sheets under one plan, from two rooms: each sheet as if it were alone, with its nine numbers.
 #[no_mangle]
 pub extern "C" fn sheet_read_stack(
     plan: &[u8],
@@ -222,4 +211,13 @@ pub extern "C" fn sheet_read_stack(
 {
     let whole = read_stack(plan, stack, numbers, bits);
     pack_places(whole.number, whole.p, whole.q)
+}
+
+// Puts a burst back: turns the cells over that an answer of the reader tells, so that the scan is restored.
+#[no_mangle]
+pub extern "C" fn sheet_put_back(plan: &[u8], sheet: &mut [u8], answer: u64) -> u64
+    ensures { λ r. ⌜ putBackReply r (now (sheet .exit)) ≡ putBackCall (now (plan .entry)) (now (sheet .entry)) answer ⌝ }
+{
+    let put = put_back(plan, sheet, answer);
+    pack_places(put.number, put.p, put.q)
 }

@@ -3,12 +3,12 @@
 --
 --   sheetSize c, dataBytes c    the bytes of a sheet, and of its data
 --   sheetAt c s i               sheet i of the stack s
---   numbersAt t i               its place in the buffer of numbers: 16 bytes a sheet
+--   numbersAt t i               its place in the buffer of numbers: 18 bytes a sheet
 --   bitsAt c b i                its place in the data buffer
 --   stackForm                   check 20: the header or the stack's length breaks the rules
 --   stackChecks                 the checks before reading a stack: the plan, 20, 21 and 12
 --   readAlone plan s b i        sheet i, read as if it were alone
---   numberBytes o               its eight numbers, 16 bits each: refusal or 0, p, q, and the reader's five
+--   numberBytes o               its nine numbers, 16 bits each: refusal or 0, p, q, and the reader's six, the pattern last (02 k)
 --   Lent, lent                  the three lent buffers
 --   SameFrame                   two triples of them have the same header, and the same lengths
 --   eachRead plan s b           the buffers after a read that is not refused: the header as it was, and each sheet's read in its place
@@ -72,7 +72,7 @@ numberBytes o =
     let v = o .verdict in
     let r = o .report in
     lowBytes 2 (v .number) ++ lowBytes 2 (v .p) ++ lowBytes 2 (v .q)
-    ++ lowBytes 2 (r .cells) ++ lowBytes 2 (r .top) ++ lowBytes 2 (r .left) ++ lowBytes 2 (r .height) ++ lowBytes 2 (r .width)
+    ++ lowBytes 2 (r .cells) ++ lowBytes 2 (r .top) ++ lowBytes 2 (r .left) ++ lowBytes 2 (r .height) ++ lowBytes 2 (r .width) ++ lowBytes 2 (r .pattern)
 
 pub record Lent : Type 0 where
   pub stack : List ℕ

@@ -25,7 +25,7 @@ use reader::search::Search;
 use stackform::count_of;
 use stackform::place;
 
-// The eight numbers of a sheet.
+// The nine numbers of a sheet.
 fn put_numbers(answer: Answer, numbers: &mut [u8])
     requires { ⌜ length (now numbers) ≡ numbersSize ⌝ }
     ensures { λ _. ⌜ now (numbers .exit) ≡ numberBytes (outcome answer (now (numbers .entry)) (now (numbers .entry))) ⌝ }
@@ -40,6 +40,7 @@ fn put_numbers(answer: Answer, numbers: &mut [u8])
     put_u16(numbers, 10, r.left);
     put_u16(numbers, 12, r.height);
     put_u16(numbers, 14, r.width);
+    put_u16(numbers, 16, r.pattern);
 }
 
 // One sheet, with its places in the other two buffers: read as if it were alone.

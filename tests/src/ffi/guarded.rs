@@ -3,8 +3,8 @@
 use std::ops::Range;
 
 use super::{
-    alter, first_difference, house_plan, plan_make, read_stack, read_two, sums, turn, Archive,
-    BY_TRIAL, SHEET,
+    alter, first_difference, house_plan, plan_make, put_back, read_stack, read_two, sums, turn,
+    Archive, BY_TRIAL, SHEET,
 };
 use crate::answer::Answer;
 use crate::given::Given;
@@ -126,6 +126,16 @@ impl Library {
         plan.assert_unchanged();
         target.hand_back(answer, sheet);
         answer
+    }
+
+    pub fn put_back(&mut self, plan: &[u8], sheet: &mut [u8], answer: u64) -> u64 {
+        let plan = Guarded::new("plan", plan, &mut self.rng);
+        let mut target = Guarded::new("sheet", sheet, &mut self.rng);
+        let null = self.rng.one_in(2);
+        let told = put_back(plan.content(), target.content_mut(), answer, null);
+        plan.assert_unchanged();
+        target.hand_back(told, sheet);
+        told
     }
 
     pub fn read_two(&mut self, plan: &[u8], first: &[u8], second: &[u8], data: &mut [u8]) -> u64 {

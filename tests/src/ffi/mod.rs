@@ -3,6 +3,7 @@
 mod alter;
 mod columns;
 mod guarded;
+mod put;
 mod stack;
 mod sums;
 mod two;
@@ -10,6 +11,7 @@ mod two;
 pub use alter::{alter, alter_by_register};
 pub use columns::turn;
 pub use guarded::Library;
+pub use put::put_back;
 pub use stack::read_stack;
 pub use sums::{sums, sums_by_registers};
 pub use two::{first_difference, part, read_two};

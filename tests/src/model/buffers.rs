@@ -4,8 +4,9 @@
 use std::ops::Range;
 
 use super::layout::Layout::{self, Rows};
+use super::put::faults;
 use super::sheet::syndrome;
-use super::stack::sheet_places;
+use super::stack::{sheet_places, NUMBERS_LEN};
 use crate::answer::Answer;
 use crate::plan::Plan;
 
@@ -96,6 +97,18 @@ pub fn check_altering_by(
     belonging(sums(plan, sheet))
 }
 
+/// Putting a burst back: checks 11, 13 and 22.
+pub fn check_putting_back(plan: &Plan, sheet: &[u8], answer: u64) -> Result<(), Answer> {
+    check_sheet(plan, sheet)?;
+    answer_of_a_burst(plan, answer)
+}
+
+/// A sheet by rows alone: checks 11 and 13.
+pub fn check_sheet(plan: &Plan, sheet: &[u8]) -> Result<(), Answer> {
+    sheet_length(Rows, plan, sheet)?;
+    unused_of_sheet(Rows, plan, sheet)
+}
+
 /// Check 11.
 fn sheet_length(layout: Layout, plan: &Plan, sheet: &[u8]) -> Result<(), Answer> {
     Answer::refuse_if(sheet.len() != layout.sheet_len(plan), 11)
@@ -138,12 +151,17 @@ fn stack_form(plan: &Plan, stack: &[u8]) -> Result<Vec<Range<usize>>, Answer> {
 
 /// Check 21, with so many sheets in the stack.
 fn numbers_length(sheets: usize, numbers: &[u8]) -> Result<(), Answer> {
-    Answer::refuse_if(numbers.len() != 16 * sheets, 21)
+    Answer::refuse_if(numbers.len() != NUMBERS_LEN * sheets, 21)
 }
 
 /// Check 12 of the data of a whole stack.
 fn data_of_stack_length(plan: &Plan, sheets: usize, data: &[u8]) -> Result<(), Answer> {
     Answer::refuse_if(data.len() != sheets * plan.data_len(), 12)
+}
+
+/// Check 22.
+fn answer_of_a_burst(plan: &Plan, answer: u64) -> Result<(), Answer> {
+    Answer::refuse_if(!faults(plan, answer).is_empty(), 22)
 }
 
 /// Check 24.

@@ -70,20 +70,18 @@ fn lay(plan: &Plan, pattern: u64, top: usize, left: usize) -> Vec<Cell> {
     cells
 }
 
-/// The answer of a read that turned these cells over: their number and the smallest rectangle that
-/// holds them; five zeros if there are none.
+/// The answer of a read that turned these cells over: their number, the smallest rectangle that holds
+/// them, and the pattern that they have in it; six zeros if there are none.
 pub fn smallest_rectangle(cells: &[Cell]) -> Answer {
     let rows = cells.iter().map(|cell| cell.0 as u64);
     let columns = cells.iter().map(|cell| cell.1 as u64);
     let (Some(top), Some(left)) = (rows.clone().min(), columns.clone().min()) else {
         return Answer::default();
     };
-    Answer {
-        cells: cells.len() as u64,
-        top,
-        left,
-        height: rows.max().unwrap_or(top) - top + 1,
-        width: columns.max().unwrap_or(left) - left + 1,
-        ..Answer::default()
-    }
+    let height = rows.max().unwrap_or(top) - top + 1;
+    let width = columns.max().unwrap_or(left) - left + 1;
+    // The cell at row r and column s of the rectangle has bit r × width + s.
+    let bit = |&(i, j): &Cell| 1 << ((i as u64 - top) * width + (j as u64 - left));
+    let pattern = cells.iter().map(bit).fold(0, |pattern, bit: u64| pattern | bit);
+    Answer::of_mended([cells.len() as u64, top, left, height, width, pattern])
 }

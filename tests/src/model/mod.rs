@@ -1,4 +1,4 @@
-//! The fifteen calls, by the words of documents 01 and 02 (requests a and c to j) and with no eye to speed
+//! The sixteen calls, by the words of documents 01 and 02 (requests a and c to k) and with no eye to speed
 //! beyond what full-size sheets ask for.
 
 mod accept;
@@ -9,6 +9,7 @@ mod columns;
 mod layout;
 mod maker;
 mod mend;
+mod put;
 mod run;
 mod sheet;
 mod stack;
@@ -20,7 +21,7 @@ pub use algebra::{independent, solve, Span};
 pub use alter::{altered_data, altered_sheet};
 pub use buffers::{
     check_altering_by, check_comparing, check_reading, check_reading_stack, check_reading_two,
-    check_summing, check_turning, check_writing,
+    check_sheet, check_summing, check_turning, check_writing,
 };
 pub use columns::{
     read_by_column, read_by_column_accepted, turn, turn_accepted, write_by_column,
@@ -29,11 +30,12 @@ pub use columns::{
 pub use layout::{by_columns, by_rows, Layout};
 pub use maker::{made_plan, power};
 pub use mend::{burst_by_search, burst_by_trial, smallest_rectangle};
+pub use put::{cells_told, faults, put_back, put_back_accepted, Fault, FAULTS};
 pub use run::{run_sums, Sums};
 pub use sheet::{
     cell, cells, data_cells, data_of, syndrome, turn_over, unused_bits, write_sheet, Cell,
 };
-pub use stack::sheet_places;
+pub use stack::{sheet_places, NUMBERS_LEN};
 pub use trial::{burst_tried, read_by_trial, read_by_trial_accepted};
 pub use two::{data_of_two, differing_row, mended_data};
 

@@ -5,6 +5,9 @@ use std::ops::Range;
 use super::read_accepted;
 use crate::plan::Plan;
 
+/// Bytes of the numbers of one sheet: nine of 16 bits (request k).
+pub const NUMBERS_LEN: usize = 18;
+
 /// Where each sheet of a stack lies, if header and length keep the rules: 0 to 64 sheets, rooms 0 or 1, and
 /// sheets that follow the header in its order and without gaps, up to the end of the stack.
 pub fn sheet_places(plan: &Plan, stack: &[u8]) -> Option<Vec<Range<usize>>> {
@@ -28,7 +31,7 @@ pub fn sheet_places(plan: &Plan, stack: &[u8]) -> Option<Vec<Range<usize>>> {
     (end == stack.len()).then_some(places)
 }
 
-/// Read each sheet, which lies at these places, as if it were alone: its eight numbers and its data go where
+/// Read each sheet, which lies at these places, as if it were alone: its nine numbers and its data go where
 /// the buffers have room for those of its place. A refused sheet and its data stay as they are.
 pub fn read_each(
     plan: &Plan,
@@ -41,6 +44,6 @@ pub fn read_each(
         let text = &mut data[sheet * plan.data_len()..(sheet + 1) * plan.data_len()];
         let answer = read_accepted(plan, &mut stack[place], text);
         let told = answer.fields().map(|number| (number as u16).to_le_bytes());
-        numbers[16 * sheet..16 * (sheet + 1)].copy_from_slice(&told.concat());
+        numbers[NUMBERS_LEN * sheet..NUMBERS_LEN * (sheet + 1)].copy_from_slice(&told.concat());
     }
 }

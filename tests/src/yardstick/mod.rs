@@ -6,6 +6,7 @@ mod best;
 mod columns;
 mod maker;
 mod plain;
+mod put;
 mod sheets;
 mod stack;
 mod trial;
@@ -13,6 +14,7 @@ mod two;
 
 pub use alter::alter_accepted;
 pub use columns::{read_by_column_accepted, turn_accepted, write_by_column_accepted};
+pub use put::put_back_accepted;
 pub use sheets::{read_accepted, sum_accepted, write_accepted};
 pub use stack::read_stack_accepted;
 pub use trial::read_by_trial_accepted;
@@ -62,6 +64,12 @@ pub fn plain_sums(plan: &[u8], sheet: &[u8], run: Range<u32>, into: &mut [u8]) -
 pub fn plain_alter(plan: &[u8], sheet: &mut [u8], position: u32) -> u64 {
     let plan = accept_by(plan, plain::windows, plain::strips);
     told(plan.and_then(|plan| alter_accepted(&plan, sheet, position)))
+}
+
+/// Putting a burst back in plain Rust: the plain plan test, the checks of the sheet and of the answer, and its cells.
+pub fn plain_put_back(plan: &[u8], sheet: &mut [u8], answer: u64) -> u64 {
+    let plan = accept_by(plan, plain::windows, plain::strips);
+    told(plan.and_then(|plan| put_back_accepted(&plan, sheet, answer)))
 }
 
 /// Reading two scans in plain Rust: the plain plan test, the checks of the buffers, and each scan as one.

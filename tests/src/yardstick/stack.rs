@@ -2,7 +2,7 @@
 
 use super::sheets::read_accepted;
 use crate::answer::Answer;
-use crate::model::{check_reading, check_reading_stack, Layout};
+use crate::model::{check_reading, check_reading_stack, Layout, NUMBERS_LEN};
 use crate::plan::Plan;
 
 /// Read a stack under an accepted plan: checks 20, 21 and 12, then each sheet with checks 13 and 14.
@@ -13,7 +13,7 @@ pub fn read_stack_accepted(
     data: &mut [u8],
 ) -> Result<(), Answer> {
     let places = check_reading_stack(plan, stack, numbers, data)?;
-    for (at, (place, into)) in places.into_iter().zip(numbers.chunks_mut(16)).enumerate() {
+    for (at, (place, into)) in places.into_iter().zip(numbers.chunks_mut(NUMBERS_LEN)).enumerate() {
         let text = &mut data[at * plan.data_len()..(at + 1) * plan.data_len()];
         let sheet = &mut stack[place];
         let answer = match check_reading(Layout::Rows, plan, sheet, text) {

@@ -1,72 +1,35 @@
--- `answer::pack` meets its contract: the fields are in range, so no sum wraps. Assumes nothing.
+-- `answer::pack` meets its contract: the fields are in range, so the sum does not wrap. Assumes nothing.
+use mathlib.Core.Path.{_≡_, ap}
+use mathlib.Core.Bool.{cond}
+use Prim.Native.Nat.{ℕ, _+_, _*_}
 use native.Mathlib.Omega.{arith}
-use Rattle.answer.specs.Answer.{packed}
+use lib.Dec.{eqb}
+use Rattle.answer.specs.Answer.{Fields, fieldsOf, placeBits, reportBits, packed}
+use Rattle.answer.proofs.Fields.{packed-below}
 use borrow.Author.Needs.{needs}
 use Rattle.answer.proofs.pack.Statement.{statement}
 use Rattle.answer.proofs.pack.Tie as tie
 
-mul-box-part : tie.Need-mul-box-part
-mul-box-part c = search needs
+-- the number, and what stands above it
+joined : (f : Fields) (above : ℕ) → above ≡ cond (eqb (f .number) 0) (reportBits f) (placeBits f) → f .number + 32 * above ≡ packed f
+unfolding packed
+joined f above e = ap (λ (x : ℕ). f .number + 32 * x) e
 
-add-box-part : tie.Need-add-box-part
-add-box-part c = search needs
-
-mul-box-part-2 : tie.Need-mul-box-part-2
-mul-box-part-2 c = search needs
-
-add-box-part-2 : tie.Need-add-box-part-2
-add-box-part-2 c = search needs
-
-mul-box-part-3 : tie.Need-mul-box-part-3
-mul-box-part-3 c = search needs
-
-add-box-part-3 : tie.Need-add-box-part-3
-add-box-part-3 c = search needs
-
-mul-place : tie.Need-mul-place
-mul-place c = search needs
-
-add-place : tie.Need-add-place
-add-place c = search needs
-
-mul-place-2 : tie.Need-mul-place-2
-mul-place-2 c = search needs
-
-add-place-2 : tie.Need-add-place-2
-add-place-2 c = search needs
-
-mul-place-3 : tie.Need-mul-place-3
-mul-place-3 c = search needs
-
-add-place-3 : tie.Need-add-place-3
-add-place-3 c = search needs
+above-requires : tie.Need-above-requires
+above-requires c κs = search needs
 
 mul-result : tie.Need-mul-result
-mul-result c = search needs
+mul-result c =
+    let f = fieldsOf (c .before .args .a) in
+    omega (arith, joined f _ (c .above .ensures), packed-below f (c .before .pre))
 
 add-result : tie.Need-add-result
-add-result c = search needs
+add-result c =
+    let f = fieldsOf (c .before .before .args .a) in
+    omega (arith, joined f _ (c .before .above .ensures), packed-below f (c .before .before .pre))
 
 returns : tie.Need-returns
-unfolding packed
-returns c = omega arith
+returns c = joined (fieldsOf (c .before .before .args .a)) _ (c .before .above .ensures)
 
 pub pack-spec : {M : Type 1} → statement M
-pack-spec =
-    tie.close
-    (tie.spec
-    mul-box-part
-    add-box-part
-    mul-box-part-2
-    add-box-part-2
-    mul-box-part-3
-    add-box-part-3
-    mul-place
-    add-place
-    mul-place-2
-    add-place-2
-    mul-place-3
-    add-place-3
-    mul-result
-    add-result
-    returns)
+pack-spec = tie.close (tie.spec above-requires mul-result add-result returns)

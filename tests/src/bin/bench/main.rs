@@ -12,6 +12,7 @@ mod before;
 mod columns;
 mod making;
 mod plan_test;
+mod put;
 mod runs;
 mod sheets;
 mod stack;
@@ -38,6 +39,7 @@ fn main() {
     columns::columns();
     columns::turns();
     trial::trials();
+    put::putting_back();
     #[cfg(feature = "before")]
     before::beside();
 }

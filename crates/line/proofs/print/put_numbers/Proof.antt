@@ -21,6 +21,9 @@ put-field-requires-4 c κs = search needs
 put-field-requires-5 : tie.Need-put-field-requires-5
 put-field-requires-5 c κs = search needs
 
+put-field-requires-6 : tie.Need-put-field-requires-6
+put-field-requires-6 c κs = search needs
+
 same-length : tie.Need-same-length
 same-length c = search needs
 
@@ -28,12 +31,14 @@ returns : tie.Need-returns
 unfolding numbers
 returns c =
     -- after each field, from the last to the first
-    let height = c .before .before .before .before .before .before in
+    let width = c .before .before .before .before .before .before in
+    let height = width .before .before .before .before in
     let left = height .before .before .before .before in
     let top = left .before .before .before .before in
     let cells = put-more (top .before .before .before .before .put-field .ensures .0) (top .put-field2 .ensures .0) in
     let corner = put-more cells (left .put-field3 .ensures .0) in
-    (put-more (put-more corner (height .put-field4 .ensures .0)) (c .before .before .put-field5 .ensures .0), omega arith)
+    let sizes = put-more (put-more corner (height .put-field4 .ensures .0)) (width .put-field5 .ensures .0) in
+    (put-more sizes (c .before .before .put-field6 .ensures .0), omega arith)
 
 pub put-numbers-spec : {M : Type 1} → statement M
 put-numbers-spec =
@@ -44,5 +49,6 @@ put-numbers-spec =
     put-field-requires-3
     put-field-requires-4
     put-field-requires-5
+    put-field-requires-6
     same-length
     returns)

@@ -25,10 +25,10 @@ returns : tie.Need-returns
 unfolding okLine
 returns c =
     let word = c .before .before .before .before .before .before .before .before .before .before .before .before .before .before .put-word .ensures in
-    let five = c .before .before .before .before .before .before .before .before .before .before .put-numbers .ensures .0 in
+    let six = c .before .before .before .before .before .before .before .before .before .before .put-numbers .ensures .0 in
     let bits = c .before .before .before .before .before .before .put-data .ensures .0 in
     let last = c .before .before .put-byte .ensures in
-    (put-more (put-more (put-more word five) bits) last, omega arith)
+    (put-more (put-more (put-more word six) bits) last, omega arith)
 
 pub put-ok-spec : {M : Type 1} → statement M
 put-ok-spec =

@@ -8,12 +8,12 @@ use borrow.Author.Needs.{needs}
 use Rattle.mend.proofs.report.report_of.Statement.{statement}
 use Rattle.mend.proofs.report.report_of.Tie as tie
 
-rows : (c : tie.After-past-line2) → (c .before .before .before .first-line .result ≤ c .before .past-line .result)
-    × (c .before .before .before .first-line .result ≤ c .before .before .before .before .before .before .args .b1)
+rows : (c : tie.After-past-line2) → let a = c .before .before .before .first-line .result in let b = c .before .past-line .result in
+    let n = c .before .before .before .before .before .before .args .b1 in (a ≤ b) × (a ≤ n) × (b ≤ n)
 rows c = first-past _ _ _ _ (c .before .before .before .first-line .ensures) (c .before .past-line .ensures)
 
-columns : (c : tie.After-past-line2) → (c .before .before .first-line2 .result ≤ c .past-line2 .result)
-    × (c .before .before .first-line2 .result ≤ c .before .before .before .before .before .before .args .b2)
+columns : (c : tie.After-past-line2) → let a = c .before .before .first-line2 .result in let b = c .past-line2 .result in
+    let n = c .before .before .before .before .before .before .args .b2 in (a ≤ b) × (a ≤ n) × (b ≤ n)
 columns c = first-past _ _ _ _ (c .before .before .first-line2 .ensures) (c .past-line2 .ensures)
 
 mul-count-digits : tie.Need-mul-count-digits
@@ -37,21 +37,27 @@ past-line-requires c κs = search needs
 past-line-requires-2 : tie.Need-past-line-requires-2
 past-line-requires-2 c κs = search needs
 
-add-t11 : tie.Need-add-t11
-add-t11 c = let l = rows c in omega arith
+sub-height : tie.Need-sub-height
+sub-height c = rows c .0
+
+sub-width : tie.Need-sub-width
+sub-width c = columns c .0
 
 add-t13 : tie.Need-add-t13
-add-t13 c = let l = columns c in omega arith
+add-t13 c = let l = rows c in omega arith
 
-sub-t14 : tie.Need-sub-t14
-sub-t14 c = rows c .0
+add-t15 : tie.Need-add-t15
+add-t15 c = let l = columns c in omega arith
 
-sub-t15 : tie.Need-sub-t15
-sub-t15 c = columns c .0
+part-number-requires : tie.Need-part-number-requires
+part-number-requires c κs = let l = rows c in let m = columns c in omega arith
 
 returns-2 : tie.Need-returns-2
-returns-2 c = lines-report _ _ _ _ _ _ _ _ _ _ (c .before .before .before .before .before .count-digits .ensures) (c .before .before .before .before .if1 .left)
-    (c .before .before .before .first-line .ensures) (c .before .before .first-line2 .ensures) (c .before .past-line .ensures) (c .past-line2 .ensures)
+returns-2 c =
+    let a = c .before in
+    lines-report _ _ _ _ _ _ _ _ _ _ _ (a .before .before .before .before .before .count-digits .ensures) (a .before .before .before .before .if1 .left)
+    (a .before .before .before .first-line .ensures) (a .before .before .first-line2 .ensures) (a .before .past-line .ensures) (a .past-line2 .ensures)
+    (c .part-number .ensures)
 
 pub report-of-spec : {M : Type 1} → statement M
 report-of-spec =
@@ -64,8 +70,9 @@ report-of-spec =
     first-line-requires-2
     past-line-requires
     past-line-requires-2
-    add-t11
+    sub-height
+    sub-width
     add-t13
-    sub-t14
-    sub-t15
+    add-t15
+    part-number-requires
     returns-2)

@@ -1,0 +1,2 @@
+-- The reader's answer as 64 bits.
+pub mod Packed

@@ -1,0 +1,2 @@
+-- A burst put back.
+pub mod PutBack
