@@ -129,6 +129,8 @@ enum {
  * The polynomial of V is z^rv plus the powers below it that v_low tells, bit i for z^i; that of H likewise, by rh and
  * h_low. Entry k of a table is z^k modulo its polynomial. Check cells are taken in sheet order, each if its joint entry
  * is no exclusive-or of those taken. plan_len is sheet_plan_bytes, and check 5 is about nothing else.
+ * Whatever the polynomials, no plan is made, or accepted, with rv below 2 * b1 * b2 where n1 is at least 2 * b1, or with
+ * rh below b1 * b2 where n2 is at least 2 * b2.
  */
 uint64_t sheet_plan_make(uint32_t n1, uint32_t n2, uint32_t b1, uint32_t b2, uint32_t rv, uint32_t v_low, uint32_t rh,
                          uint32_t h_low, uint8_t *plan, size_t plan_len);

@@ -122,6 +122,12 @@ impl Plan {
         }
         None
     }
+
+    /// As many check cells as the widths want, or all there are: the first in sheet order, whether they serve or not.
+    pub fn with_first_cells(self) -> Plan {
+        let cells = (0..self.n1 as u16).flat_map(|i| (0..self.n2 as u16).map(move |j| (i, j)));
+        Plan { checks: cells.take(self.rv + self.rh).collect(), ..self }
+    }
 }
 
 /// A table and the width of its entries.

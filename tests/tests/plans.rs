@@ -9,20 +9,25 @@ use sheet_tests::plan::Plan;
 use sheet_tests::scans::burst;
 
 const PAGE: &str = include_str!("../../docs/PLANS.md");
+const PROMISE: &str = include_str!("../../docs/PROMISE.md");
 const HOST: &str = include_str!("../../examples/host.c");
 
 #[derive(Debug)]
 struct Row {
     given: Given,
     check_cells: usize,
-    floor: usize,
+    /// Of rv, of rh and of the check cells.
+    floors: [u32; 3],
 }
 
 impl Row {
-    /// `| b1 × b2 | n1 × n2 | rv | V | rh | H | check cells | floor |`; none for other lines.
+    /// `| b1 × b2 | n1 × n2 | rv | floor | V | rh | floor | H | check cells | floor |`; none for other lines.
     fn parse(line: &str) -> Option<Row> {
         let cells: Vec<&str> = line.strip_prefix('|')?.split('|').map(str::trim).collect();
-        let &[size, sheet, rv, v, rh, h, check_cells, floor, ""] = &cells[..] else { return None };
+        let &[size, sheet, rv, rv_floor, v, rh, rh_floor, h, check_cells, floor, ""] = &cells[..]
+        else {
+            return None;
+        };
         let (b1, b2) = pair(size)?;
         let (n1, n2) = pair(sheet)?;
         let polynomial = |degree: &str, low: &str| {
@@ -30,7 +35,9 @@ impl Row {
             Some(Polynomial { degree: degree.parse().ok()?, low })
         };
         let given = Given::new([n1, n2, b1, b2], polynomial(rv, v)?, polynomial(rh, h)?);
-        Some(Row { given, check_cells: check_cells.parse().ok()?, floor: floor.parse().ok()? })
+        let [rv_floor, rh_floor, floor] = [rv_floor, rh_floor, floor].map(|cell| cell.parse().ok());
+        let floors = [rv_floor?, rh_floor?, floor?];
+        Some(Row { given, check_cells: check_cells.parse().ok()?, floors })
     }
 
     fn burst(&self) -> (u32, u32) {
@@ -64,16 +71,29 @@ fn every_burst_size() {
     }
 }
 
-/// The floor is request l's: 2 × b1 × b2 for V and b1 × b2 for H.
+/// The floors are request l's: 2 × b1 × b2 for V and b1 × b2 for H.
 #[test]
-fn check_cells_and_floor() {
-    for Row { given, check_cells, floor } in rows() {
+fn check_cells_and_floors() {
+    for Row { given, check_cells, floors } in rows() {
         let Given { n1, n2, b1, b2, rv, rh, .. } = given;
         assert!(n1 >= 2 * b1 && n2 >= 2 * b2, "{given:?}");
-        assert!(rv >= 2 * b1 * b2 && rh >= b1 * b2, "{given:?}");
         assert_eq!(check_cells, (rv + rh) as usize, "{given:?}");
-        assert_eq!(floor, (3 * b1 * b2) as usize, "{given:?}");
-        assert!(floor <= check_cells, "{given:?}");
+        assert_eq!(floors, [2 * b1 * b2, b1 * b2, 3 * b1 * b2], "{given:?}");
+        assert!(rv >= floors[0] && rh >= floors[1], "{given:?}");
+    }
+}
+
+/// What both pages say of the house plan.
+#[test]
+fn house_plan_and_floors() {
+    let Row { given, check_cells, floors: [rv, rh, both] } = row(3, 3);
+    let said = format!(
+        "rv is {} against {rv}, rh {} against {rh}, and the check cells are {check_cells} against {both}",
+        given.rv, given.rh
+    );
+    for page in [PAGE, PROMISE] {
+        let words: Vec<_> = page.split_whitespace().collect();
+        assert!(words.join(" ").contains(&said), "{said}");
     }
 }
 

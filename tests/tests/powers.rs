@@ -56,9 +56,7 @@ fn small_shape(b1: usize, b2: usize, rng: &mut Rng) -> Plan {
 
 /// The plan with check cells that are independent, or with the first cells if there are too few.
 fn with_any_checks(plan: Plan, order: CellOrder, rng: &mut Rng) -> Plan {
-    let cells = (0..plan.n1 as u16).flat_map(|i| (0..plan.n2 as u16).map(move |j| (i, j)));
-    let first = cells.take(plan.rv + plan.rh).collect();
-    plan.clone().with_checks(order, rng).unwrap_or(Plan { checks: first, ..plan })
+    plan.clone().with_checks(order, rng).unwrap_or_else(|| plan.with_first_cells())
 }
 
 /// A random polynomial of this degree with constant term 1.

@@ -39,7 +39,7 @@ member-apart : (c : Code) (a a' x : ℕ) → columnMember c a a' x ≡ true → 
 unfolding columnMember
 member-apart c a a' x t e = clash t (ap not (eq-eqb (place (c .b2) a (x / c .b1)) (place (c .b2) a' (x / c .b1)) e))
 
-apart-member : (c : Code) (a a' x : ℕ) → (Together c a a' x → ⊥) → columnMember c a a' x ≡ true
+pub apart-member : (c : Code) (a a' x : ℕ) → (Together c a a' x → ⊥) → columnMember c a a' x ≡ true
 unfolding columnMember
 apart-member c a a' x h = ap not (ne-eqb (place (c .b2) a (x / c .b1)) (place (c .b2) a' (x / c .b1)) h)
 

@@ -10,6 +10,7 @@ pub mod Trial
 pub mod Laid
 pub mod Check
 pub mod Fill
+pub mod Floor
 pub mod Written
 pub mod One
 pub mod Report

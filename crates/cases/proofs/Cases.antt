@@ -2,13 +2,15 @@
 --
 --   run         a case with what the definitions answer in place of what the table says
 --   cases-hold  running changes nothing
+--   t-accepted  the second case by itself: the plan T is accepted
 --
 -- Assumes nothing.
-use mathlib.Core.Path.{_≡_, refl}
-use mathlib.Core.List.{map}
+use mathlib.Core.Path.{_≡_, refl, ap}
+use mathlib.Core.List.{List, [], _∷_, map}
 use Rattle.accept.specs.Verdict.{planVerdict, conditionsVerdict, rowsVerdict, columnsVerdict, checksVerdict}
 use Rattle.accept.specs.Pairs.{inRow, fromRow, firstFailing}
-use Rattle.plan.specs.Verdict.{_orElse_}
+use Rattle.plan.specs.declared.verdict.Verdict.{Verdict}
+use Rattle.plan.specs.Verdict.{accepted, _orElse_}
 use Rattle.plan.specs.Header.{headerOf}
 use Rattle.plan.specs.Bytes.{codeOf}
 use Rattle.plan.specs.Form.{badBurst, badSheet, badWidths, badOffsets, sizesVerdict, offsetsVerdict, fieldsVerdict, headerVerdict}
@@ -51,3 +53,17 @@ unfolding table S T planS planT planBytes planVerdict conditionsVerdict rowsVerd
     dataSize rank dataCell fill belongs written dataOf change mended cellCount rowTouched columnTouched reportOf lengthVerdict unusedVerdict
     sheetChecks lengthChecks writeChecks readChecks writtenIn writeIn firstBurst burstIn readVerdict sheetRead bitsRead reportRead readIn xor
 cases-hold = refl
+
+told : Case → Verdict
+told (testing plan v) = v
+told (writing plan bits sheet o) = o .verdict
+told (reading plan sheet bits o) = o .verdict
+
+second : List Case → Verdict
+second [] = accepted
+second (a ∷ []) = accepted
+second (a ∷ b ∷ rest) = told b
+
+pub t-accepted : planVerdict T ≡ accepted
+unfolding table told second
+t-accepted = ap second cases-hold

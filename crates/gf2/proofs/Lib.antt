@@ -12,6 +12,7 @@ pub mod Extension
 pub mod Triangle
 pub mod Basis
 pub mod Span
+pub mod Dimension
 pub mod Runs
 pub mod Combination
 pub mod Combined

@@ -1,11 +1,12 @@
--- As many free vectors as they have digits span everything.
+-- As many free vectors as they have digits span everything, and there are no more of them.
 --
 --   listed-at    the elements of a list of all values
+--   most-list    free numbers below 2 ^ n in a list are at most n
 --   full-list    n free numbers below 2 ^ n in a list span each number below 2 ^ n
 --   full-span    the same of a family
 --
--- Each vector that is put into a basis by leading digit fills one place more. After n of them all n low places are
--- filled, and then nothing below 2 ^ n is left when it is reduced.
+-- Each vector that is put into a basis by leading digit fills one place more of the n low places, so there are at most n.
+-- After n of them all these are filled, and then nothing below 2 ^ n is left when it is reduced.
 --
 -- Assumes nothing.
 use mathlib.Core.Path.{_≡_, refl, sym, ap, _∙_}
@@ -110,6 +111,11 @@ module _ (n : ℕ) (small : n ≤ 64) where
       let ne : reduced b m ≡ 0 → ⊥ = eqb-false (reduced b m) 0 (basis-reduces B m (below-64 m l) ∙ not-true (spans vs m) (p .0)) in
       let g = grow ms (suc c) (basis-inserted B m (below-64 m l) ne) (inserted-filled B m l ne ∙ ap suc e) (λ k q. h (suc k) (omega arith)) (p .1) in
       record { words = g .words; basis = g .basis; full = omega (arith, g .full) }
+
+  pub most-list : (ms : List ℕ) → Below n ms → freeFrom [] ms ≡ true → length ms ≤ n
+  most-list ms h f =
+      let g = grow ms 0 basis-empty (filled-none n small) h f in
+      omega (arith, g .full, filled-le n (g .words))
 
   pub full-list : (ms : List ℕ) → Below n ms → length ms ≡ n → freeFrom [] ms ≡ true → (x : ℕ) → x < 2 ^ n → spans (reverseAux ms []) x ≡ true
   full-list ms h e f x l =

@@ -6,6 +6,7 @@ pub mod Layouts
 pub mod Trial
 pub mod Answer
 pub mod House
+pub mod CheckCells
 pub mod Sums
 pub mod Alter
 pub mod TwoScans
