@@ -5,7 +5,8 @@
 # make bench    times beside plain Rust (BEFORE=commit: and beside that commit's library, in the same run)
 # make host     the example host in C      make clean
 # make table    the column table of the house plan, by the program housetable
-# make find     polynomials for sheets of N1= rows and N2= columns, bursts of B1= by B2= (MOST=: so many a degree)
+# make find     polynomials for sheets of N1= rows and N2= columns, bursts of B1= by B2=
+#               (T=: of at most so many cells; MOST=: so many polynomials a degree)
 CARGO_TARGET_DIR ?= $(CURDIR)/build/cargo
 export CARGO_TARGET_DIR
 PREFIX ?= /usr/local
@@ -19,6 +20,7 @@ N1 ?= 512
 N2 ?= 698
 B1 ?= 3
 B2 ?= 3
+T ?= 0
 MOST ?=
 
 .PHONY: run trial test lib host find table install bench clean
@@ -58,7 +60,7 @@ table: $(TABLE)
 find: lib
 	@mkdir -p build
 	gcc -std=c99 -O2 -Iinclude examples/find.c $(LIB) -o build/find
-	@build/find $(N1) $(N2) $(B1) $(B2) $(MOST)
+	@build/find $(N1) $(N2) $(B1) $(B2) $(T) $(MOST)
 
 install: lib
 	install -d $(DESTDIR)$(PREFIX)/lib/pkgconfig $(DESTDIR)$(PREFIX)/include

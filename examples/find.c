@@ -1,17 +1,18 @@
 /*
  * Finds polynomials for sheet_plan_make, by trying them in that call.
  *
- *     find N1 N2 B1 B2 [MOST]
+ *     find N1 N2 B1 B2 [T [MOST]]
  *
  * For each table it walks the degrees upward, and in a degree all polynomials with constant term 1 in rising order,
- * until some serve for sheets of N1 rows and N2 columns and bursts of B1 by B2 cells. Then it looks for the pair with
- * the fewest check cells that is made. With MOST, no more than so many polynomials of a degree are tried.
+ * until some serve for sheets of N1 rows and N2 columns and bursts of B1 by B2 cells: of at most T cells where T is 1
+ * or 2, of any where it is 0 or not given. Then it looks for the pair with the fewest check cells that is made. With
+ * MOST, no more than so many polynomials of a degree are tried.
  *
  * Standard output has a line for each degree that was walked, and one for the plan; standard error tells how far it has
  * come. The exit status is 0 where a plan was found, 1 where none was, 2 for bad arguments, 3 for an answer of the
  * library that can't be.
  *
- *     gcc -Iinclude examples/find.c target/staticlib/libsheet.a -o find && ./find 512 698 3 3
+ *     gcc -Iinclude examples/find.c target/staticlib/libsheet.a -o find && ./find 512 698 3 3 2
  */
 #include "sheet.h"
 
@@ -50,14 +51,14 @@ typedef struct {
     uint32_t reach, reach_degree, reach_low;           /* of those that failed, the one that serves for most lines */
 } table;
 
-static uint32_t n1, n2, b1, b2;
+static uint32_t n1, n2, b1, b2, most_cells;
 static uint64_t most = UINT64_MAX;
 static uint8_t plan[SHEET_PLAN_HEADER_BYTES + 4 * (MOST_ENTRIES + MOST_CHECKS)];
 static time_t began, told;
 
 static uint64_t make(uint32_t rows, uint32_t columns, uint32_t rv, uint32_t v_low, uint32_t rh, uint32_t h_low) {
     size_t len = sheet_plan_bytes(rows, columns, b1, b2, rv, rh);
-    return sheet_plan_make(rows, columns, b1, b2, rv, v_low, rh, h_low, plan, len);
+    return sheet_plan_make(rows, columns, b1, b2, most_cells, rv, v_low, rh, h_low, plan, len);
 }
 
 /* V alone: a sheet of one strip has no pair of strips, so any H passes. */
@@ -183,12 +184,23 @@ static int plan_found(table *v, uint32_t least_rv, table *h, uint32_t least_rh) 
 }
 
 /*
- * Where to begin. Numbers are not independent where they are more than their digits, so a degree is at least as many
- * as must be independent: of two windows as far apart as can be, b2 for each of their rows; of two such strips, b1 for
- * each column of one that the other has not.
+ * Where to begin if bursts have any cells. Numbers are not independent where they are more than their digits, so a
+ * degree is at least as many as must be independent: of two windows as far apart as can be, b2 for each of their rows;
+ * of two such strips, b1 for each column of one that the other has not. Where bursts have few cells there is no such
+ * least number, and the first degree is 1.
  */
-static uint32_t begin_v(void) { return (n1 < 2 * b1 ? n1 : 2 * b1) * b2; }
-static uint32_t begin_h(void) { return n2 == b2 ? 1 : (n2 < 2 * b2 ? n2 - b2 : b2) * b1; }
+static uint32_t begin_v(void) { return most_cells != 0 ? 1 : (n1 < 2 * b1 ? n1 : 2 * b1) * b2; }
+
+static uint32_t begin_h(void) {
+    if (most_cells != 0 || n2 == b2) return 1;
+    return (n2 < 2 * b2 ? n2 - b2 : b2) * b1;
+}
+
+static void show_sizes(void) {
+    printf("sheets of %u x %u, bursts of %u x %u", (unsigned)n1, (unsigned)n2, (unsigned)b1, (unsigned)b2);
+    if (most_cells != 0) printf(" with at most %u cell%s", (unsigned)most_cells, most_cells == 1 ? "" : "s");
+    putchar('\n');
+}
 
 static int search(void) {
     static table v = {.name = "V", .lines = "rows", .fails = SHEET_PLAN_ROWS, .ask = ask_v};
@@ -196,7 +208,7 @@ static int search(void) {
     uint32_t least_rv, least_rh;
     v.full = n1, v.burst = b1, v.least = begin_v();
     h.full = n2, h.burst = b2, h.least = begin_h();
-    printf("sheets of %u x %u, bursts of %u x %u\n", (unsigned)n1, (unsigned)n2, (unsigned)b1, (unsigned)b2);
+    show_sizes();
     least_rv = least_degree(&v);
     least_rh = least_degree(&h);
     if (least_rv != 0 && least_rh != 0 && plan_found(&v, least_rv, &h, least_rh)) return 0;
@@ -206,7 +218,7 @@ static int search(void) {
 
 static int refuse(const char *why) {
     fprintf(stderr, "find: %s\n", why);
-    fprintf(stderr, "use: find N1 N2 B1 B2 [MOST], for sheets of N1 x N2 cells and bursts of B1 x B2\n");
+    fprintf(stderr, "use: find N1 N2 B1 B2 [T [MOST]], for sheets of N1 x N2 cells and bursts of B1 x B2\n");
     return 2;
 }
 
@@ -220,20 +232,21 @@ static int number(const char *word, uint64_t largest, uint64_t *value) {
 }
 
 int main(int count, char **words) {
-    uint32_t *const sizes[] = {&n1, &n2, &b1, &b2};
+    uint32_t *const sizes[] = {&n1, &n2, &b1, &b2, &most_cells};
     uint64_t value;
-    if (count < 5 || count > 6) return refuse("four numbers are needed, and a fifth may be given");
-    for (int i = 0; i < 4; i++) {
-        if (!number(words[i + 1], UINT32_MAX, &value)) return refuse("a size is not a number of 32 bits");
+    if (count < 5 || count > 7) return refuse("four numbers are needed, and two more may be given");
+    for (int i = 0; i < 5 && i + 1 < count; i++) {
+        if (!number(words[i + 1], UINT32_MAX, &value)) return refuse("a size or T is not a number of 32 bits");
         *sizes[i] = (uint32_t)value;
     }
-    if (count == 6 && (!number(words[5], UINT64_MAX, &most) || most == 0))
+    if (count == 7 && (!number(words[6], UINT64_MAX, &most) || most == 0))
         return refuse("MOST is not a number above 0");
 
-    /* The call looks at the sizes before the plan's length, which is wrong here. */
-    switch (sheet_answer_number(sheet_plan_make(n1, n2, b1, b2, 1, 1, 1, 1, NULL, 0))) {
+    /* The call looks at the sizes and T before the plan's length, which is wrong here. */
+    switch (sheet_answer_number(sheet_plan_make(n1, n2, b1, b2, most_cells, 1, 1, 1, 1, NULL, 0))) {
     case SHEET_PLAN_BURST: return refuse("B1 and B2 are 1 to 4");
     case SHEET_PLAN_SIZE: return refuse("N1 is B1 to 512, and N2 is B2 to 698");
+    case SHEET_PLAN_MOST_CELLS: return refuse("T is 0, 1 or 2");
     default: break;
     }
     began = told = time(NULL);

@@ -2,7 +2,7 @@
  * A whole host: makes a plan for sheets of 16 rows and 40 columns and bursts of 3 by 3 cells, writes a drawing to a
  * sheet, puts a burst on it, sums it in two halves, reads it back, and by trial too, puts the burst back as it was
  * scanned, alters one stitch, reads two scans that each have a burst, reads a stack of sheets from two rooms, reads a
- * sheet that a scanner stored by columns, and shows each step.
+ * sheet that a scanner stored by columns, makes a plan for fluff, and shows each step.
  * Cells inside the mended rectangle are shown as O (dark) and o (light).
  *
  *     gcc -Iinclude examples/host.c target/staticlib/libsheet.a -o host && ./host
@@ -13,7 +13,7 @@
 #include <stdlib.h>
 #include <string.h>
 
-enum { ROWS = 16, COLUMNS = 40, HEIGHT = 3, WIDTH = 3 };
+enum { ROWS = 16, COLUMNS = 40, HEIGHT = 3, WIDTH = 3, ANY_CELLS = 0 };
 enum { RV = 22, V_LOW = 0x39f0d, RH = 14, H_LOW = 0x8f7, CHECKS = RV + RH };
 enum { ROW_BYTES = (COLUMNS + 7) / 8, SHEET_LEN = ROWS * ROW_BYTES, DATA_LEN = (ROWS * COLUMNS - CHECKS + 7) / 8 };
 
@@ -39,7 +39,7 @@ static uint64_t make_plan(void) {
     plan_len = sheet_plan_bytes(ROWS, COLUMNS, HEIGHT, WIDTH, RV, RH);
     plan = malloc(plan_len);
     if (plan == NULL) exit(1);
-    return sheet_plan_make(ROWS, COLUMNS, HEIGHT, WIDTH, RV, V_LOW, RH, H_LOW, plan, plan_len);
+    return sheet_plan_make(ROWS, COLUMNS, HEIGHT, WIDTH, ANY_CELLS, RV, V_LOW, RH, H_LOW, plan, plan_len);
 }
 
 static size_t number16(size_t at) { return plan[at] + 256u * plan[at + 1]; }
@@ -231,6 +231,28 @@ static int read_by_columns(void) {
     return memcmp(second, sheet, SHEET_LEN) == 0;
 }
 
+enum { FEW_CELLS = 2, FEW_RV = 15, FEW_V_LOW = 0xdd, FEW_RH = 10, FEW_H_LOW = 0x2d };
+
+/* Fluff touches few cells: a plan for bursts of at most two, in the same rectangle, has fewer check cells. */
+static int read_fluff(void) {
+    size_t len = sheet_plan_bytes(ROWS, COLUMNS, HEIGHT, WIDTH, FEW_RV, FEW_RH), text_len;
+    uint8_t *few = malloc(len), text[SHEET_LEN] = {'f', 'l', 'u', 'f', 'f'}, read[SHEET_LEN];
+    uint64_t answer;
+    if (few == NULL) exit(1);
+    answer = sheet_plan_make(ROWS, COLUMNS, HEIGHT, WIDTH, FEW_CELLS, FEW_RV, FEW_V_LOW, FEW_RH, FEW_H_LOW, few, len);
+    if (answer != SHEET_OK) exit(1);
+    text_len = sheet_plan_data_bytes(few, len);
+    if (sheet_write(few, len, text, text_len, second, SHEET_LEN) != SHEET_OK) exit(1);
+    turn(second, 5, 12);
+    turn(second, 7, 14);
+    answer = sheet_read(few, len, second, SHEET_LEN, read, text_len);
+    printf("\na plan for fluff of at most %d cells has %d check cells, not %d: %u cells mended, at row %u, column %u\n",
+           FEW_CELLS, FEW_RV + FEW_RH, CHECKS, sheet_answer_cells(answer), sheet_answer_top(answer),
+           sheet_answer_left(answer));
+    free(few);
+    return sheet_answer_number(answer) == SHEET_OK && memcmp(read, text, text_len) == 0;
+}
+
 int main(void) {
     uint64_t answer = make_plan();
     if (sheet_answer_number(answer) != SHEET_OK) {
@@ -276,6 +298,9 @@ int main(void) {
 
     if (!read_by_columns()) return 1;
     printf("turned by rows it is the sheet as written\n");
+
+    if (!read_fluff()) return 1;
+    printf("its data is as written\n");
     free(plan);
     return 0;
 }

@@ -7,18 +7,20 @@
  * into one by rows, read a sheet by trial, and put a burst back. Each answers one 64-bit number, which the functions
  * below take apart. The bytes of plans, sheets, stacks and data are described in docs/FORMAT.md.
  *
- * Promise, proved for every accepted plan (docs/PROMISE.md): a sheet that sheet_write made, with any cells of one
- * rectangle of the plan's b1 rows and b2 columns turned over, is read back by sheet_read as it was written. Two scans
- * of one such sheet, a burst on either or both, always give its data by sheet_read_two; and each sheet of a stack is
- * read as if it were alone. A sheet by columns is written, read and mended as the one by rows that has the same cells,
- * and turned from one layout into the other it loses nothing. From the sheet that a read leaves and its answer,
- * sheet_put_back restores the scan, bit for bit.
+ * Promise, proved for every accepted plan (docs/PROMISE.md): a sheet that sheet_write made, with cells of one rectangle
+ * of the plan's b1 rows and b2 columns turned over, any of them where the plan's t is 0, at most t where it is 1 or 2,
+ * is read back by sheet_read as it was written. Two scans of one such sheet, a burst on either or both, always give its
+ * data by sheet_read_two; and each sheet of a stack is read as if it were alone. A sheet by columns is written, read
+ * and mended as the one by rows that has the same cells, and turned from one layout into the other it loses nothing.
+ * From the sheet that a read leaves and its answer, sheet_put_back restores the scan, bit for bit.
  *
  * Words. This header has one word for each thing; the knitter's word stands after it:
  *     sheet     the film: n1 rows by n2 columns of dark and light cells
  *     row       a course
  *     column    a needle
- *     burst     a blot: cells turned over inside one rectangle of b1 rows and b2 columns; it may be empty
+ *     t         a number of the plan: the most cells of a burst, 1 or 2; or 0: any cells of the rectangle
+ *     burst     a blot: cells turned over inside one rectangle of b1 rows and b2 columns, at most t of them where t is
+ *               not 0; it may be empty
  *     pattern   the cells of a burst, as a number: row r and column s of the smallest rectangle have bit r * width + s
  *     window    b1 consecutive rows                    strip    b2 consecutive columns
  *     plan      the tables under which sheets are written and read
@@ -40,6 +42,13 @@
  * sheet_to_columns, and in the source of sheet_to_rows. All other calls keep to sheets by rows, the sums of runs,
  * alterations, two scans, stacks and putting back among them: for these a sheet by columns is turned first. The data
  * has one order, whatever the layout.
+ *
+ * Which t to take. Oil or a scratch may turn over any cells of the rectangle: t is 0, as in the house plan. Fluff
+ * touches few cells: with t of 1 or 2 a burst has at most so many, anywhere in the rectangle, and a plan needs fewer
+ * check cells. For 3 by 3 on 512 by 698 cells docs/PLANS.md has a plan with 36 check cells for t of 0, with 25 for t
+ * of 2 and with 20 for t of 1; for 4 by 4 it has none of this size for t of 0, one with 26 for t of 2, and with 20 for
+ * t of 1. Take 1 or 2 only where bursts have no more cells: of others nothing is promised. sheet_read may then answer
+ * 14, or take the scan for that of another sheet and give other data.
  *
  * The machine. libsheet.a is for x86-64 Linux, 64-bit: the C calling convention of System V, and a size_t of 8 bytes,
  * which is checked below. Of the C library it needs memcpy and memset, and nothing else.
@@ -72,8 +81,8 @@ extern "C" {
 typedef char sheet_size_t_has_8_bytes[sizeof(size_t) == 8 ? 1 : -1];
 
 enum {
-    SHEET_PLAN_HEADER_BYTES = 20,     /* the header of a plan: ten numbers of 16 bits */
-    SHEET_HOUSE_PLAN_BYTES = 14684,   /* the house plan: the length that sheet_house_plan asks for */
+    SHEET_PLAN_HEADER_BYTES = 22,     /* the header of a plan: eleven numbers of 16 bits */
+    SHEET_HOUSE_PLAN_BYTES = 14686,   /* the house plan: the length that sheet_house_plan asks for */
     SHEET_SUMS_BYTES = 8,             /* the two sums of a run: the length that sheet_sums asks for */
     SHEET_STACK_SHEETS = 64,          /* the most sheets of a stack */
     SHEET_STACK_NUMBERS = 18          /* bytes of the numbers of one sheet of a stack: nine of 16 bits */
@@ -94,7 +103,10 @@ enum {
     SHEET_PUT_BACK_STACK = 65536      /* sheet_put_back */
 };
 
-/* The numbers of an answer, and what its places p and q tell. 13 and 14 are told of each sheet of a stack by itself. */
+/*
+ * The numbers of an answer, and what its places p and q tell. 13 and 14 are told of each sheet of a stack by itself. 23
+ * is a check of plans: where a call makes checks 1 to 10, or 1 to a later one, it is among them, after 4 and before 5.
+ */
 enum {
     SHEET_OK = 0,             /* taken; places 0, 0 */
     SHEET_PLAN_SHORT = 1,     /* the plan is shorter than its header; 0, 0 */
@@ -120,32 +132,43 @@ enum {
     SHEET_STACK_FORM = 20,    /* the header of a stack, or its length, breaks the rules; 0, 0 */
     SHEET_NUMBERS_LENGTH = 21, /* the buffer of a stack's numbers has another length; 0, 0 */
     SHEET_NOT_A_BURST = 22,   /* the answer to put back is not that of a burst of the plan; 0, 0 */
+    SHEET_PLAN_MOST_CELLS = 23, /* t is over 2; 0, 0 */
     SHEET_SUMS_LENGTH = 24    /* the buffer of the sums has another length; 0, 0 */
 };
 
 /*
- * Makes a plan from its sizes and two binary polynomials: checks 2, 3, 4, 5, 15, 8, 9 and 16 in this order, then every
- * byte of the plan, whatever it held. Takes any numbers. A made plan is accepted.
+ * Makes a plan from its sizes, its t and two binary polynomials: checks 2, 3, 4, 23, 5, 15, 8, 9 and 16 in this order,
+ * then every byte of the plan, whatever it held. Takes any numbers. A made plan is accepted.
  * The polynomial of V is z^rv plus the powers below it that v_low tells, bit i for z^i; that of H likewise, by rh and
  * h_low. Entry k of a table is z^k modulo its polynomial. Check cells are taken in sheet order, each if its joint entry
  * is no exclusive-or of those taken. plan_len is sheet_plan_bytes, and check 5 is about nothing else.
- * Whatever the polynomials, no plan is made, or accepted, with rv below 2 * b1 * b2 where n1 is at least 2 * b1, or with
- * rh below b1 * b2 where n2 is at least 2 * b2.
+ * Whatever the polynomials, no plan with t of 0 is made, or accepted, with rv below 2 * b1 * b2 where n1 is at least
+ * 2 * b1, or with rh below b1 * b2 where n2 is at least 2 * b2. With t of 1 or 2 both may be less. docs/PLANS.md has
+ * polynomials for each size of burst and each t. A t of b1 * b2 or more asks the same of the tables as 0 does.
  */
-uint64_t sheet_plan_make(uint32_t n1, uint32_t n2, uint32_t b1, uint32_t b2, uint32_t rv, uint32_t v_low, uint32_t rh,
-                         uint32_t h_low, uint8_t *plan, size_t plan_len);
+uint64_t sheet_plan_make(uint32_t n1, uint32_t n2, uint32_t b1, uint32_t b2, uint32_t t, uint32_t rv, uint32_t v_low,
+                         uint32_t rh, uint32_t h_low, uint8_t *plan, size_t plan_len);
 
 /*
- * Makes the house plan, for sheets of 512 rows and 698 columns and bursts of 3 by 3 cells: every byte of it, whatever
- * the buffer held. Gives SHEET_OK; or SHEET_PLAN_LENGTH where plan_len is not SHEET_HOUSE_PLAN_BYTES, and then no byte
- * changes. There is no other refusal. The house polynomials are those of degree 22 with 0x39f0d below it for V, and of
- * degree 14 with 0x8f7 for H: sheet_plan_make makes the same bytes of 512, 698, 3, 3, 22, 0x39f0d, 14 and 0x8f7.
+ * Makes the house plan, for sheets of 512 rows and 698 columns and bursts of 3 by 3 cells, with t of 0, so of any of
+ * these cells: every byte of it, whatever the buffer held. Gives SHEET_OK; or SHEET_PLAN_LENGTH where plan_len is not
+ * SHEET_HOUSE_PLAN_BYTES, and then no byte changes. There is no other refusal. The house polynomials are those of
+ * degree 22 with 0x39f0d below it for V, and of degree 14 with 0x8f7 for H: sheet_plan_make makes the same bytes of
+ * 512, 698, 3, 3, 0, 22, 0x39f0d, 14 and 0x8f7.
  */
 uint64_t sheet_house_plan(uint8_t *plan, size_t plan_len);
 
 /*
- * Tests a plan: checks 1 to 10 in order.
+ * Tests a plan: checks 1, 2, 3, 4, 23, 5, 6, 7, 8, 9 and 10 in this order.
  * Takes any bytes. Gives SHEET_OK, or the first check that fails with its places. Writes nothing.
+ * What must not be depends on t. Independent means that no nonempty set has exclusive-or 0.
+ * Check 8, of two windows, which may be the same. With t of 0: the V entries of the rows in either window, each taken
+ * once, are not independent. With t of 1 or 2: two different sets of at most t V entries, one in each window, have the
+ * same exclusive-or. Entries are told apart by where they stand, not by value; the empty set is one of the sets; and
+ * the two may share entries.
+ * Check 9, of two strips. Each remainder modulo b2 that stands on different columns in them, with each r below b1, has
+ * one member: the exclusive-or of the two H entries for that r. With t of 0: the members are not independent. With t of
+ * 1 or 2: a nonempty set of at most t members has exclusive-or 0.
  */
 uint64_t sheet_plan_test(const uint8_t *plan, size_t plan_len);
 
@@ -162,7 +185,8 @@ uint64_t sheet_write(const uint8_t *plan, size_t plan_len, const uint8_t *data, 
  * Reads a sheet: checks 1 to 14, then mends the sheet in place and writes every byte of its data, whatever that held.
  * The answer tells how many cells were turned over, the smallest rectangle that holds them, and which cells of that
  * they are, as a pattern: six zeros if none were. sheet_put_back turns them over again.
- * SHEET_NOT_MENDABLE is given exactly where no single burst, the empty one included, brings both sums to 0.
+ * SHEET_NOT_MENDABLE is given exactly where no single burst, the empty one included, brings both sums to 0. A burst of
+ * a plan with t of 1 or 2 has at most t cells: never are more mended.
  */
 uint64_t sheet_read(const uint8_t *plan, size_t plan_len, uint8_t *sheet, size_t sheet_len, uint8_t *data,
                     size_t data_len);
@@ -271,10 +295,11 @@ uint64_t sheet_to_rows(const uint8_t *plan, size_t plan_len, const uint8_t *sour
 
 /*
  * Reads a sheet by trial, to show small sheets with a reader that anyone can follow: each rectangle of b1 rows and b2
- * columns in sheet order, in each every pattern by its number, from 0 on, until both sums are 0. The answer and every
- * byte that is left are those of sheet_read, whatever is handed in. Its time grows with the rectangles on the sheet
- * times the patterns of one, (n1 - b1 + 1) (n2 - b2 + 1) 2^(b1 b2), and is longest where the answer is 14. On a sheet
- * of 8 by 8 cells these are 18,432 for bursts of 3 by 3 and 1,638,400 for 4 by 4; under the house plan 181,739,520.
+ * columns in sheet order, in each every pattern by its number, from 0 on, until both sums are 0; where t is not 0,
+ * patterns of more than t cells are passed over. The answer and every byte that is left are those of sheet_read,
+ * whatever is handed in. Its time grows with the rectangles on the sheet times the patterns of one, of any cells,
+ * (n1 - b1 + 1) (n2 - b2 + 1) 2^(b1 b2), and is longest where the answer is 14. On a sheet of 8 by 8 cells these are
+ * 18,432 for bursts of 3 by 3 and 1,638,400 for 4 by 4; under the house plan 181,739,520.
  */
 uint64_t sheet_read_by_trial(const uint8_t *plan, size_t plan_len, uint8_t *sheet, size_t sheet_len, uint8_t *data,
                              size_t data_len);
@@ -286,10 +311,10 @@ uint64_t sheet_read_by_trial(const uint8_t *plan, size_t plan_len, uint8_t *shee
  * answer may be any number. It is taken exactly if all its 64 bits are those that sheet_read answers for some burst of
  * the plan: 0, the empty one, changes nothing. Any other is turned back with SHEET_NOT_A_BURST: a refusal; a rectangle
  * that is larger than b1 by b2, leaves the sheet or is not the smallest for its pattern; a pattern with a bit beyond
- * the rectangle, or with another number of cells than is told; no cells, but some other field; or any other bit that is
- * 1. The answer may also be one of sheet_read_by_trial, of sheet_stack_answer, or of sheet_read_by_column, whose sheet
- * is turned by rows first. The sheet need not be the one that was read, nor belong to its plan, and nothing is mended.
- * The call's own answer has a number and two places alone.
+ * the rectangle, or with another number of cells than is told; more than t cells, where t is not 0; no cells, but some
+ * other field; or any other bit that is 1. The answer may also be one of sheet_read_by_trial, of sheet_stack_answer, or
+ * of sheet_read_by_column, whose sheet is turned by rows first. The sheet need not be the one that was read, nor belong
+ * to its plan, and nothing is mended. The call's own answer has a number and two places alone.
  */
 uint64_t sheet_put_back(const uint8_t *plan, size_t plan_len, uint8_t *sheet, size_t sheet_len, uint64_t answer);
 
@@ -349,8 +374,8 @@ static inline sheet_part sheet_scans_differ(const uint8_t *plan, size_t plan_len
 }
 
 /*
- * The bytes of a plan of these sizes: the length that sheet_plan_make asks for. Any numbers may be handed in: for
- * absurd ones it wraps, and the call then answers 2, 3 or 4 whatever the length.
+ * The bytes of a plan of these sizes, with any t: the length that sheet_plan_make asks for. Any numbers may be handed
+ * in: for absurd ones it wraps, and the call then answers 2, 3 or 4 whatever the length.
  */
 static inline size_t sheet_plan_bytes(uint32_t n1, uint32_t n2, uint32_t b1, uint32_t b2, uint32_t rv, uint32_t rh) {
     size_t entries = (size_t)n1 * b2 + (size_t)n2 * b1;

@@ -117,7 +117,7 @@ int main(void) {
     static const uint8_t few_cells[SHEET_PLAN_HEADER_BYTES] = {1, 0, 1, 0, 1, 0, 1, 0, 1, 0, 1, 0};
     expect("data bits of S and T", sheet_plan_data_bits(plan_s, sizeof plan_s) == 5 &&
                                        sheet_plan_data_bits(plan_t, sizeof plan_t) == 2);
-    expect("no data bits", sheet_plan_data_bits(plan_s, 19) == 0 &&
+    expect("no data bits", sheet_plan_data_bits(plan_s, SHEET_PLAN_HEADER_BYTES - 1) == 0 &&
                                sheet_plan_data_bits(few_cells, sizeof few_cells) == 0);
     by_hand();
     each_wrong_plan(plan_turned_back);

@@ -22,8 +22,9 @@ int main(void) {
 
     expect("the length", sheet_plan_bytes(512, 698, 3, 3, 22, 14) == len);
     expect("the house plan is made", sheet_house_plan(house, len) == SHEET_OK);
-    expect("the maker", sheet_plan_make(512, 698, 3, 3, 22, 0x39f0d, 14, 0x8f7, made, len) == SHEET_OK);
+    expect("the maker", sheet_plan_make(512, 698, 3, 3, 0, 22, 0x39f0d, 14, 0x8f7, made, len) == SHEET_OK);
     expect("the plan is the maker's", memcmp(house, made, len) == 0);
+    expect("any cells of a burst", sheet_plan_field(house, len, 20) == 0);
     expect("the plan is accepted", sheet_plan_test(house, len) == SHEET_OK);
     expect("sizes", sheet_plan_sheet_bytes(house, len) == 512 * 88 && sheet_plan_data_bytes(house, len) == 44668);
     turned_back(1);

@@ -8,10 +8,10 @@
 
 /* One row of two cells, both check cells: k is 0. */
 static const uint8_t plan_n[] = {
-    1, 0, 2, 0, 1, 0, 1, 0, 1, 0, 1, 0, 20, 0, 24, 0, 32, 0, 40, 0, /* header */
-    1, 0, 0, 0,                                                     /* V */
-    0, 0, 0, 0, 1, 0, 0, 0,                                         /* H */
-    0, 0, 0, 0, 0, 0, 1, 0,                                         /* check list */
+    1, 0, 2, 0, 1, 0, 1, 0, 1, 0, 1, 0, 22, 0, 26, 0, 34, 0, 42, 0, 0, 0, /* header */
+    1, 0, 0, 0,                                                           /* V */
+    0, 0, 0, 0, 1, 0, 0, 0,                                               /* H */
+    0, 0, 0, 0, 0, 0, 1, 0,                                               /* check list */
 };
 
 static int answers(uint64_t answer, unsigned number) { return answer == number; }
@@ -33,10 +33,11 @@ int main(void) {
     expect("test, no plan", answers(sheet_plan_test(NULL, 0), SHEET_PLAN_SHORT));
     expect("test, plan N", answers(sheet_plan_test(plan_n, sizeof plan_n), SHEET_OK));
 
-    expect("make, no plan", answers(sheet_plan_make(3, 3, 1, 1, 2, 3, 2, 3, NULL, 0), SHEET_PLAN_LENGTH));
-    expect("make, no plan, no burst", answers(sheet_plan_make(3, 3, 0, 1, 2, 3, 2, 3, NULL, 0), SHEET_PLAN_BURST));
-    expect("make, no plan, no rows", answers(sheet_plan_make(0, 3, 1, 1, 2, 3, 2, 3, NULL, 0), SHEET_PLAN_SIZE));
-    expect("make, no plan, no width", answers(sheet_plan_make(3, 3, 1, 1, 0, 3, 2, 3, NULL, 0), SHEET_PLAN_WIDTH));
+    expect("make, no plan", answers(sheet_plan_make(3, 3, 1, 1, 0, 2, 3, 2, 3, NULL, 0), SHEET_PLAN_LENGTH));
+    expect("make, no plan, no burst", answers(sheet_plan_make(3, 3, 0, 1, 0, 2, 3, 2, 3, NULL, 0), SHEET_PLAN_BURST));
+    expect("make, no plan, no rows", answers(sheet_plan_make(0, 3, 1, 1, 0, 2, 3, 2, 3, NULL, 0), SHEET_PLAN_SIZE));
+    expect("make, no plan, no width", answers(sheet_plan_make(3, 3, 1, 1, 0, 0, 3, 2, 3, NULL, 0), SHEET_PLAN_WIDTH));
+    expect("make, no plan, t", answers(sheet_plan_make(3, 3, 1, 1, 3, 2, 3, 2, 3, NULL, 0), SHEET_PLAN_MOST_CELLS));
     expect("house plan, no plan", answers(sheet_house_plan(NULL, 0), SHEET_PLAN_LENGTH));
 
     expect("write, no plan", answers(sheet_write(NULL, 0, data, 1, sheet, 3), SHEET_PLAN_SHORT));

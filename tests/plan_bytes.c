@@ -1,7 +1,7 @@
 /*
  * sheet_plan_bytes against the call. With v_low = 0 the maker turns back every plan: with 15 where the buffer has the
  * right length, else with 5, since the length is looked at first. All sizes are tried with one pair of widths, some
- * with other widths and in neighbouring lengths too. Prints how many makings were tried.
+ * with other widths and in neighbouring lengths too, and t of 0, 1 and 2 in turn. Prints how many makings were tried.
  */
 #include "sheet.h"
 
@@ -25,7 +25,7 @@ static size_t told(sizes s) { return sheet_plan_bytes(s.n1, s.n2, s.b1, s.b2, s.
 static void expect(sizes s, size_t len, uint64_t number) {
     uint64_t answer;
     if (len > sizeof plan) exit(2);
-    answer = sheet_plan_make(s.n1, s.n2, s.b1, s.b2, s.rv, 0, s.rh, 1, plan, len);
+    answer = sheet_plan_make(s.n1, s.n2, s.b1, s.b2, (uint32_t)(tried % 3), s.rv, 0, s.rh, 1, plan, len);
     tried++;
     if (answer == number) return;
     printf("FAILED: %lu x %lu, %lu x %lu, %lu, %lu in %lu bytes: %#lx\n", (unsigned long)s.n1, (unsigned long)s.n2,

@@ -167,7 +167,7 @@ static uint8_t *eight_plan(size_t *plan_len) {
     uint8_t *plan;
     *plan_len = sheet_plan_bytes(8, 8, 3, 3, 22, 14);
     plan = lent(*plan_len);
-    expect("the plan is made", sheet_plan_make(8, 8, 3, 3, 22, 0x39f0d, 14, 0x8f7, plan, *plan_len) == SHEET_OK);
+    expect("the plan is made", sheet_plan_make(8, 8, 3, 3, 0, 22, 0x39f0d, 14, 0x8f7, plan, *plan_len) == SHEET_OK);
     return plan;
 }
 

@@ -64,7 +64,7 @@ static void by_hand(void) {
     turned_back(s, 7, SHEET_UNUSED_BIT, 1);
     s.sheet_len = 1;
     turned_back(s, 7, SHEET_SHEET_LENGTH, 0);
-    s.plan_len = 19;
+    s.plan_len = SHEET_PLAN_HEADER_BYTES - 1;
     turned_back(s, 7, SHEET_PLAN_SHORT, 0);
     free(s.sheet);
 }

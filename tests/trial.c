@@ -116,7 +116,7 @@ static void refused(void) {
 static void eight_by_eight(void) {
     size_t plan_len = sheet_plan_bytes(8, 8, 3, 3, 22, 14), data_len;
     uint8_t *plan = lent(plan_len), *data, sheet[8], scan[8];
-    expect("the plan is made", sheet_plan_make(8, 8, 3, 3, 22, 0x39f0d, 14, 0x8f7, plan, plan_len) == SHEET_OK);
+    expect("the plan is made", sheet_plan_make(8, 8, 3, 3, 0, 22, 0x39f0d, 14, 0x8f7, plan, plan_len) == SHEET_OK);
     data_len = sheet_plan_data_bytes(plan, plan_len);
     data = lent(data_len);
     for (size_t at = 0; at < data_len; at++) data[at] = (uint8_t)(at * 67 + 5);

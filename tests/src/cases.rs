@@ -13,6 +13,7 @@ pub fn plan_s() -> Plan {
         n2: 3,
         b1: 1,
         b2: 1,
+        t: 0,
         rv: 2,
         rh: 2,
         v: vec![1, 2, 3],
@@ -27,6 +28,7 @@ pub fn plan_t() -> Plan {
         n2: 4,
         b1: 1,
         b2: 2,
+        t: 0,
         rv: 4,
         rh: 2,
         v: vec![1, 2, 4, 8],
@@ -43,6 +45,7 @@ pub fn plan_two_rows() -> Plan {
         n2: 2,
         b1: 2,
         b2: 1,
+        t: 0,
         rv: 3,
         rh: 2,
         v: vec![1, 2, 4],
@@ -59,6 +62,7 @@ pub fn plan_tall() -> Plan {
         n2: 2,
         b1: 1,
         b2: 1,
+        t: 0,
         rv: 4,
         rh: 1,
         v: (1..=9).collect(),
@@ -105,13 +109,18 @@ pub fn plan_cases() -> Vec<PlanCase> {
     cases
 }
 
-/// A plan for each of the numbers 0 to 10. The one that is accepted is S.
+/// A plan for each of the numbers 0 to 10, and for 23. Those that are accepted are S, and S with t of 1 and
+/// of 2: its bursts have one cell at most, whatever t is.
 pub fn plan_for_each_number() -> Vec<(Vec<u8>, Answer)> {
     let s = plan_s().encode();
+    let s_t = |t| Plan { t, ..plan_s() }.encode();
     let too_large = Plan { v: vec![1, 2, 4], ..plan_s() };
     let out_of_order = Plan { checks: vec![(0, 0), (0, 2), (0, 1), (1, 0)], ..plan_s() };
     let mut plans = vec![
-        (s[..19].to_vec(), (1, 0, 0)),
+        (s[..21].to_vec(), (1, 0, 0)),
+        (s_t(3), (23, 0, 0)),
+        (s_t(1), (0, 0, 0)),
+        (s_t(2), (0, 0, 0)),
         (too_large.encode(), (6, 0, 2)),
         (out_of_order.encode(), (7, 2, 0)),
     ];

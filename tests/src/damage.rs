@@ -2,7 +2,7 @@
 //! length or an unused bit that is 1.
 
 use crate::model::Layout;
-use crate::plan::{field, header_field, set_header_field, Plan};
+use crate::plan::{field, header_field, set_header_field, Plan, HEADER_LEN};
 use crate::rng::Rng;
 
 /// The bytes of a plan, damaged in its tables, its check list, its bytes, or more than one of them.
@@ -85,9 +85,9 @@ fn fill_up(checks: &mut Vec<(u16, u16)>, n1: u16, n2: u16, count: usize) {
 
 /// The length, the header, or any bits.
 fn damage_bytes(bytes: &mut Vec<u8>, rng: &mut Rng) {
-    match rng.below(6) {
+    match rng.below(9) {
         0 => bytes.truncate(rng.below(bytes.len())),
-        1 => bytes.truncate(rng.below(20)),
+        1 => bytes.truncate(rng.below(HEADER_LEN)),
         2 => {
             let more = rng.within(1, 8);
             bytes.extend(rng.bytes(more));
@@ -98,8 +98,16 @@ fn damage_bytes(bytes: &mut Vec<u8>, rng: &mut Rng) {
                 bytes[at] ^= 1 << rng.below(8);
             }
         }
+        4 | 5 => damage_t(bytes, rng),
         _ => damage_header(bytes, rng),
     }
+}
+
+/// Another t: in its limits, or beyond them, also such that its low byte would be good.
+fn damage_t(bytes: &mut [u8], rng: &mut Rng) {
+    let beyond = [3, 4, 5, 255, 256, 257, 258, 1 << 15, u16::MAX, rng.bits(16) as u16];
+    let t = if rng.one_in(2) { rng.below(3) as u16 } else { rng.pick(&beyond) };
+    set_header_field(bytes, field::T, t);
 }
 
 /// A number of the header at, just within or just beyond its limits, or off by a little.

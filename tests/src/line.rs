@@ -27,7 +27,7 @@ pub fn line(input: &[u8]) -> String {
     format!("ok{numbers}{part}{digits}")
 }
 
-/// How much of the input is the plan: 20 bytes, or as many as the length field says if that is
+/// How much of the input is the plan: 22 bytes, or as many as the length field says if that is
 /// more, or all there is.
 fn plan_len(input: &[u8]) -> usize {
     if input.len() < HEADER_LEN {

@@ -4,6 +4,7 @@ use crate::cases::{plan_s, plan_t, plan_tall, plan_two_rows};
 use crate::model::{self, Span};
 use crate::plan::Plan;
 use crate::rng::Rng;
+use crate::sparse::few_of_4x4;
 
 /// A binary polynomial: z^degree plus the powers below it, bit i of `low` for z^i.
 #[derive(Clone, Copy, Debug)]
@@ -123,6 +124,11 @@ impl Plan {
         None
     }
 
+    /// With check cells that are independent, or with the first cells if there are too few.
+    pub fn with_any_checks(self, order: CellOrder, rng: &mut Rng) -> Plan {
+        self.clone().with_checks(order, rng).unwrap_or_else(|| self.with_first_cells())
+    }
+
     /// As many check cells as the widths want, or all there are: the first in sheet order, whether they serve or not.
     pub fn with_first_cells(self) -> Plan {
         let cells = (0..self.n1 as u16).flat_map(|i| (0..self.n2 as u16).map(move |j| (i, j)));
@@ -136,7 +142,7 @@ type Table = (usize, Vec<u32>);
 /// The plan with bursts of b × b and these tables, b entries a row or column.
 fn square(b: usize, (rv, v): Table, (rh, h): Table, order: CellOrder, rng: &mut Rng) -> Plan {
     let (n1, n2) = (v.len() / b, h.len() / b);
-    let plan = Plan { n1, n2, b1: b, b2: b, rv, rh, v, h, checks: Vec::new() };
+    let plan = Plan { n1, n2, b1: b, b2: b, t: 0, rv, rh, v, h, checks: Vec::new() };
     plan.with_checks(order, rng).expect("there are enough cells")
 }
 
@@ -194,7 +200,7 @@ pub fn largest_4x4(order: CellOrder, rng: &mut Rng) -> Plan {
 /// The accepted plan of one row of two cells, both check cells: it holds no data.
 pub fn no_data() -> Plan {
     let (v, h) = (vec![1], vec![0, 1]);
-    Plan { n1: 1, n2: 2, b1: 1, b2: 1, rv: 1, rh: 1, v, h, checks: vec![(0, 0), (0, 1)] }
+    Plan { n1: 1, n2: 2, b1: 1, b2: 1, t: 0, rv: 1, rh: 1, v, h, checks: vec![(0, 0), (0, 1)] }
 }
 
 /// Every size of burst that check 2 lets pass.
@@ -203,24 +209,42 @@ pub fn burst_sizes() -> impl Iterator<Item = (usize, usize)> {
 }
 
 /// A random accepted plan for bursts of b1 × b2, with at most `more` rows and columns beyond one
-/// burst. Some have exactly b1 rows or b2 columns, and some of these have no data bits at all.
+/// burst. Some have exactly b1 rows or b2 columns, and some of these have no data bits at all. Half of
+/// them are for bursts of any cells, the others for such as have at most one cell, or two.
 pub fn accepted(rng: &mut Rng, b1: usize, b2: usize, more: usize) -> Plan {
+    let t = any_t(rng);
+    accepted_with(rng, [b1, b2, t], more)
+}
+
+/// The same for bursts of at most t cells; of any, if t is 0.
+pub fn accepted_with(rng: &mut Rng, [b1, b2, t]: [usize; 3], more: usize) -> Plan {
     loop {
-        let shape = random_shape(rng, b1, b2, more);
+        let shape = shape_about(rng, [b1, b2, t], more);
         if let Some(plan) = shape.and_then(|shape| accepted_in(rng, shape)) {
             return plan;
         }
     }
 }
 
-/// A random accepted plan for bursts of b1 × b2 on n1 rows and n2 columns. Not every size has one: a sheet of just one
-/// burst's size has too few cells.
-pub fn accepted_of(rng: &mut Rng, [n1, n2, b1, b2]: [usize; 4]) -> Plan {
+/// A random accepted plan for bursts of b1 × b2 on n1 rows and n2 columns, of any cells or of few. Not
+/// every size has one: a sheet of just one burst's size has too few cells.
+pub fn accepted_of(rng: &mut Rng, sizes: [usize; 4]) -> Plan {
+    let t = any_t(rng);
+    accepted_of_with(rng, sizes, t)
+}
+
+/// The same for bursts of at most t cells; of any, if t is 0.
+pub fn accepted_of_with(rng: &mut Rng, sizes: [usize; 4], t: usize) -> Plan {
     let tried = (0..10_000).find_map(|_| {
-        let shape = shape_of(rng, [n1, n2, b1, b2])?;
+        let shape = shape_of(rng, sizes, t)?;
         accepted_in(rng, shape)
     });
-    tried.unwrap_or_else(|| panic!("no plan is found for {n1} x {n2} and {b1} x {b2}"))
+    tried.unwrap_or_else(|| panic!("no plan is found for {sizes:?} and {t} cells"))
+}
+
+/// 0 in half of the cases, or 1 or 2.
+fn any_t(rng: &mut Rng) -> usize {
+    rng.pick(&[0, 0, 1, 2])
 }
 
 /// The plan of this shape with random tables, if it is accepted.
@@ -232,14 +256,19 @@ fn accepted_in(rng: &mut Rng, shape: Plan) -> Option<Plan> {
 
 /// Sizes under which a plan can be accepted, tables and check list left empty.
 pub fn random_shape(rng: &mut Rng, b1: usize, b2: usize, more: usize) -> Option<Plan> {
+    let t = any_t(rng);
+    shape_about(rng, [b1, b2, t], more)
+}
+
+fn shape_about(rng: &mut Rng, [b1, b2, t]: [usize; 3], more: usize) -> Option<Plan> {
     let mut size = |b: usize| if rng.one_in(6) { b } else { rng.within(b, b + more) };
     let (n1, n2) = (size(b1), size(b2));
-    shape_of(rng, [n1, n2, b1, b2])
+    shape_of(rng, [n1, n2, b1, b2], t)
 }
 
 /// Widths of the entries under which a plan of these sizes can be accepted, tables and check list left empty.
-fn shape_of(rng: &mut Rng, [n1, n2, b1, b2]: [usize; 4]) -> Option<Plan> {
-    let (least_rv, least_rh) = least_widths(n1, n2, b1, b2);
+fn shape_of(rng: &mut Rng, [n1, n2, b1, b2]: [usize; 4], t: usize) -> Option<Plan> {
+    let (least_rv, least_rh) = low_widths([n1, n2, b1, b2], t);
     let rank = most_checks(n1, n2, b1, b2);
     let most_rv = 32.min(n1 * b2).min(rank.checked_sub(least_rh)?);
     if most_rv < least_rv {
@@ -249,11 +278,30 @@ fn shape_of(rng: &mut Rng, [n1, n2, b1, b2]: [usize; 4]) -> Option<Plan> {
     let most_rh = 32.min(n2 * b1).min(rank - rv);
     let no_data = n1 * n2 == rank && rank - rv == most_rh && rng.one_in(3);
     let rh = if no_data { most_rh } else { width(rng, least_rh, most_rh) };
-    Some(Plan { n1, n2, b1, b2, rv, rh, v: Vec::new(), h: Vec::new(), checks: Vec::new() })
+    Some(Plan { n1, n2, b1, b2, t, rv, rh, v: Vec::new(), h: Vec::new(), checks: Vec::new() })
 }
 
-/// The least rv and rh under which a plan can be accepted: as many as two windows have entries, and
-/// two strips members.
+/// An rv and an rh about which random tables begin to be accepted: the least for bursts of any cells; for
+/// such as have few, what the number of sums asks that must differ from each other, or from 0.
+pub fn low_widths([n1, n2, b1, b2]: [usize; 4], t: usize) -> (usize, usize) {
+    let (least_rv, least_rh) = least_widths(n1, n2, b1, b2);
+    if t == 0 {
+        return (least_rv, least_rh);
+    }
+    let bits = |count: usize| count.checked_ilog2().map_or(0, |log| log as usize + 1);
+    // Entries; and pairs of them in one window, in one row or in two.
+    let other_rows: usize = (1..b1).map(|apart| (n1 - apart) * b2 * b2).sum();
+    let pairs = if t == 1 { 0 } else { n1 * b2 * (b2 - 1) / 2 + other_rows };
+    let sets = bits(n1 * b2 + pairs);
+    // Members, one for two columns of the same remainder and each r; and pairs of them.
+    let of_remainder = n2.div_ceil(b2);
+    let members = b1 * b2 * of_remainder * (of_remainder - 1) / 2;
+    let of_members = if t == 1 { members } else { members * (1 + b1 * b2 / 2) };
+    (least_rv.min(sets + sets / 3), least_rh.min(bits(of_members).saturating_sub(2).max(1)))
+}
+
+/// The least rv and rh under which a plan for bursts of any cells can be accepted: as many as two windows
+/// have entries, and two strips members.
 pub fn least_widths(n1: usize, n2: usize, b1: usize, b2: usize) -> (usize, usize) {
     ((2 * b1).min(n1) * b2, (b2.min(n2 - b2) * b1).max(1))
 }
@@ -288,7 +336,8 @@ fn with_random_tables(rng: &mut Rng, shape: Plan) -> Plan {
     Plan { v, h, ..shape }
 }
 
-/// Plans of sizes about multiples of 8, thin ones, and such as have several bytes in rows or in columns.
+/// Plans of sizes about multiples of 8, thin ones, such as have several bytes in rows or in columns, and
+/// such as are for bursts of few cells.
 pub fn plans_of_many_sizes(rng: &mut Rng) -> Vec<Plan> {
     let sizes = [
         (1, 2),
@@ -310,5 +359,6 @@ pub fn plans_of_many_sizes(rng: &mut Rng) -> Vec<Plan> {
     let mut plans = vec![plan_s(), plan_t(), plan_two_rows(), plan_tall(), no_data()];
     plans.extend(sizes.map(|(n1, n2)| least_1x1(n1, n2, order, rng)));
     plans.extend([powers_3x3(20, 13, order, rng), powers_3x3(13, 20, order, rng)]);
+    plans.extend([few_of_4x4([20, 13], 1, order, rng), few_of_4x4([13, 20], 2, order, rng)]);
     plans
 }

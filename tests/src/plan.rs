@@ -4,9 +4,9 @@
 
 use crate::answer::Answer;
 
-pub const HEADER_LEN: usize = 20;
+pub const HEADER_LEN: usize = 22;
 
-/// The ten 16-bit numbers of the header, by their place.
+/// The eleven 16-bit numbers of the header, by their place.
 pub mod field {
     pub const N1: usize = 0;
     pub const N2: usize = 1;
@@ -18,6 +18,7 @@ pub mod field {
     pub const H_OFFSET: usize = 7;
     pub const CHECK_OFFSET: usize = 8;
     pub const LENGTH: usize = 9;
+    pub const T: usize = 10;
 }
 
 #[derive(Clone, Debug, PartialEq, Eq)]
@@ -28,6 +29,8 @@ pub struct Plan {
     /// Rows and columns of a burst.
     pub b1: usize,
     pub b2: usize,
+    /// The most cells of a burst, 1 or 2; or 0, if it may have any of its rectangle (request m of 02).
+    pub t: usize,
     /// Bits of a V entry and of an H entry.
     pub rv: usize,
     pub rh: usize,
@@ -57,14 +60,15 @@ pub fn set_header_field(bytes: &mut [u8], field: usize, value: u16) {
 }
 
 impl Plan {
-    /// Checks 2, 3 and 4, which are about the sizes alone.
+    /// Checks 2, 3, 4 and 23, which are about the sizes alone.
     pub fn check_sizes(&self) -> Result<(), Answer> {
         let burst_good = [self.b1, self.b2].iter().all(|b| (1..=4).contains(b));
         let size_good = (self.b1..=512).contains(&self.n1) && (self.b2..=698).contains(&self.n2);
         let width_good = [self.rv, self.rh].iter().all(|r| (1..=32).contains(r));
         Answer::refuse_if(!burst_good, 2)?;
         Answer::refuse_if(!size_good, 3)?;
-        Answer::refuse_if(!width_good, 4)
+        Answer::refuse_if(!width_good, 4)?;
+        Answer::refuse_if(self.t > 2, 23)
     }
 
     /// The offsets of the two tables and of the check list, and the length, as the rule gives them.
@@ -77,7 +81,7 @@ impl Plan {
 
     pub fn encode(&self) -> Vec<u8> {
         let sizes = [self.n1, self.n2, self.b1, self.b2, self.rv, self.rh];
-        let header = sizes.into_iter().chain(self.layout());
+        let header = sizes.into_iter().chain(self.layout()).chain([self.t]);
         let mut bytes: Vec<u8> = header.flat_map(|n| (n as u16).to_le_bytes()).collect();
         bytes.extend(self.v.iter().chain(&self.h).flat_map(|entry| entry.to_le_bytes()));
         for (row, column) in &self.checks {
@@ -87,7 +91,7 @@ impl Plan {
         bytes
     }
 
-    /// The plan in these bytes, or the refusal of the first of checks 1 to 5 that fails.
+    /// The plan in these bytes, or the refusal of the first of checks 1 to 4, 23 and 5 that fails.
     pub fn parse(bytes: &[u8]) -> Result<Plan, Answer> {
         Answer::refuse_if(bytes.len() < HEADER_LEN, 1)?;
         let field = |place| usize::from(header_field(bytes, place));
@@ -96,6 +100,7 @@ impl Plan {
             n2: field(field::N2),
             b1: field(field::B1),
             b2: field(field::B2),
+            t: field(field::T),
             rv: field(field::RV),
             rh: field(field::RH),
             v: Vec::new(),
@@ -129,6 +134,16 @@ impl Plan {
     /// The joint entry of cell (i, j): V + 2^rv × H.
     pub fn joint(&self, i: usize, j: usize) -> u64 {
         u64::from(self.v_entry(i, j)) | u64::from(self.h_entry(i, j)) << self.rv
+    }
+
+    /// The most cells that a burst has.
+    pub fn most_cells(&self) -> usize {
+        let rectangle = self.b1 * self.b2;
+        if self.t == 0 {
+            rectangle
+        } else {
+            rectangle.min(self.t)
+        }
     }
 
     /// Bytes of one row of a sheet.

@@ -7,7 +7,7 @@ use crate::make::{no_data, powers_3x3, CellOrder};
 use crate::model::{smallest_rectangle, Fault};
 use crate::plan::Plan;
 use crate::rng::Rng;
-use crate::scans::{every_burst, random_burst};
+use crate::scans::{denser_bursts_at, every_burst, full_burst, random_burst};
 
 /// The reader's six numbers.
 pub type Six = [u64; 6];
@@ -97,7 +97,16 @@ pub fn near_misses(plan: &Plan) -> Vec<(Fault, u64)> {
     add(Fault::Beyond, with_a_bit_beyond(plan));
     add(Fault::Count, with_another_count(plan));
     add(Fault::None, none_with_a_rectangle(plan));
-    let good = [0, packed(full([plan.n1 - plan.b1, plan.n2 - plan.b2], [plan.b1, plan.b2]))];
+    // More cells than a burst may have would be a second reason.
+    all.retain(|&(_, answer)| plan.t == 0 || Answer::told_by(answer).cells <= plan.t as u64);
+    let (bottom, right) = (plan.n1 - plan.b1, plan.n2 - plan.b2);
+    for cells in [denser_bursts_at(plan, 0, 0), denser_bursts_at(plan, bottom, right)].concat() {
+        all.push((Fault::MoreThanT, smallest_rectangle(&cells).pack()));
+    }
+    if plan.t != 0 && plan.b1 * plan.b2 > plan.t {
+        all.push((Fault::MoreThanT, packed(full([bottom, right], [plan.b1, plan.b2]))));
+    }
+    let good = [0, smallest_rectangle(&full_burst(plan, bottom, right)).pack()];
     for answer in good {
         all.extend((1..32).map(|number| (Fault::Refusal, answer | number)));
         all.extend((51..64).map(|bit| (Fault::OtherBit, answer | 1 << bit)));
@@ -105,12 +114,14 @@ pub fn near_misses(plan: &Plan) -> Vec<(Fault, u64)> {
     all
 }
 
-/// One row or one column more than a burst has, on the sheet all the same: all cells of one column, and two corners.
+/// One row or one column more than a burst has, on the sheet all the same: all cells of one column, its
+/// first and its last, and two corners.
 fn larger_than_the_burst(plan: &Plan) -> Vec<Six> {
     let Plan { n1, n2, b1, b2, .. } = *plan;
     let mut all = vec![];
     for top in 0..n1.saturating_sub(b1) {
         all.push(full([top, n2 - 1], [b1 + 1, 1]));
+        all.push([2, top as u64, 0, b1 as u64 + 1, 1, 1 | 1 << b1]);
         let corners = 1 | 1 << (b1 * b2 + b2 - 1);
         if b2 > 1 && b1 * b2 + b2 <= 16 {
             all.push([2, top as u64, 0, b1 as u64 + 1, b2 as u64, corners]);
@@ -118,6 +129,7 @@ fn larger_than_the_burst(plan: &Plan) -> Vec<Six> {
     }
     for left in 0..n2.saturating_sub(b2) {
         all.push(full([n1 - 1, left], [1, b2 + 1]));
+        all.push([2, 0, left as u64, 1, b2 as u64 + 1, 1 | 1 << b2]);
         let corners = 1 | 1 << ((b2 + 1) * b1 - 1);
         if b1 > 1 && b1 * b2 + b1 <= 16 {
             all.push([2, 0, left as u64, b1 as u64, b2 as u64 + 1, corners]);
@@ -178,7 +190,7 @@ fn not_the_smallest(plan: &Plan) -> Vec<Six> {
     all
 }
 
-/// Full rectangles with one bit more in the pattern, which is counted as a cell.
+/// Full rectangles with one bit more in the pattern, which is counted as a cell; and that bit alone.
 fn with_a_bit_beyond(plan: &Plan) -> Vec<Six> {
     let mut all = vec![];
     for height in 1..=plan.b1 {
@@ -186,7 +198,8 @@ fn with_a_bit_beyond(plan: &Plan) -> Vec<Six> {
             let [cells, top, left, h, w, pattern] =
                 full([plan.n1 - height, plan.n2 - width], [height, width]);
             let beyond = height * width..16;
-            all.extend(beyond.map(|bit| [cells + 1, top, left, h, w, pattern | 1 << bit]));
+            all.extend(beyond.clone().map(|bit| [cells + 1, top, left, h, w, pattern | 1 << bit]));
+            all.extend(beyond.map(|bit| [1, top, left, h, w, 1 << bit]));
         }
     }
     all

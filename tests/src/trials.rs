@@ -54,10 +54,13 @@ pub fn small(rng: &mut Rng, b1: usize, b2: usize) -> Plan {
     }
 }
 
-/// How many patterns there are to try: in each rectangle 2 to the power b1 × b2.
+/// How many patterns there are to try: in each rectangle 2 to the power b1 × b2, or as many as have at most
+/// t cells.
 pub fn patterns(plan: &Plan) -> usize {
     let rectangles = (plan.n1 - plan.b1 + 1) * (plan.n2 - plan.b2 + 1);
-    rectangles << (plan.b1 * plan.b2)
+    let most = plan.most_cells() as u32;
+    rectangles
+        * (0..1u32 << (plan.b1 * plan.b2)).filter(|pattern| pattern.count_ones() <= most).count()
 }
 
 /// Cases 3, 4, 6 and 7 of 01, and others worked out by hand: bursts in the first rectangle and in the last, such as are

@@ -149,8 +149,8 @@ fn every_number() {
             }
         }
     }
-    writes.require("sheet_write", &[(0..=0, 1000), (1..=13, 100)]);
-    reads.require("sheet_read", &[(0..=0, 1000), (1..=14, 100)]);
+    writes.require("sheet_write", &[(0..=0, 1000), (1..=13, 100), (23..=23, 100)]);
+    reads.require("sheet_read", &[(0..=0, 1000), (1..=14, 100), (23..=23, 100)]);
 }
 
 /// Full size: bursts in all corners, at the edges and inside; two bursts; a random sheet.

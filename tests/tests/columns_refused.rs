@@ -48,7 +48,8 @@ fn order_of_the_checks() {
             }
         }
     }
-    let least = [(0..=0, 3), (1..=10, 50), (11..=11, 100), (12..=12, 15), (13..=13, 3)];
+    let least =
+        [(0..=0, 3), (1..=10, 50), (23..=23, 50), (11..=11, 100), (12..=12, 15), (13..=13, 3)];
     writes.require("sheet_write_by_column, more than one check fails", &least);
     reads.require("sheet_read_by_column, more than one check fails", &least);
 }
@@ -82,7 +83,7 @@ fn order_of_the_checks_of_turning() {
             }
         }
     }
-    let least = [(0..=0, 6), (1..=10, 300), (11..=11, 1000), (13..=13, 18)];
+    let least = [(0..=0, 6), (1..=10, 300), (23..=23, 300), (11..=11, 1000), (13..=13, 18)];
     tally.require("turning, more than one check fails", &least);
 }
 
@@ -142,10 +143,16 @@ fn every_number() {
             }
         }
     }
-    writes.require("sheet_write_by_column", &[(0..=0, 5000), (1..=10, 50), (11..=13, 500)]);
-    reads.require("sheet_read_by_column", &[(0..=0, 5000), (1..=10, 50), (11..=14, 500)]);
-    assert!((14..32).all(|number| writes.met(number) == 0));
-    assert!((15..32).all(|number| reads.met(number) == 0));
+    writes.require(
+        "sheet_write_by_column",
+        &[(0..=0, 5000), (1..=10, 50), (23..=23, 50), (11..=13, 500)],
+    );
+    reads.require(
+        "sheet_read_by_column",
+        &[(0..=0, 5000), (1..=10, 50), (23..=23, 50), (11..=14, 500)],
+    );
+    assert!((14..23).chain(24..32).all(|number| writes.met(number) == 0));
+    assert!((15..23).chain(24..32).all(|number| reads.met(number) == 0));
 }
 
 /// Every number of turning, either way; and 11 where the source alone or the target alone has another length. No
@@ -177,8 +184,11 @@ fn every_number_of_turning() {
             }
         }
         let what = format!("turning from {from:?}");
-        tally.require(&what, &[(0..=0, 5000), (1..=10, 50), (11..=11, 1000), (13..=13, 500)]);
-        assert!([12].into_iter().chain(14..32).all(|number| tally.met(number) == 0));
+        tally.require(
+            &what,
+            &[(0..=0, 5000), (1..=10, 50), (23..=23, 50), (11..=11, 1000), (13..=13, 500)],
+        );
+        assert!([12].into_iter().chain(14..23).chain(24..32).all(|number| tally.met(number) == 0));
         of_source.require("the source alone has another length", &[(11..=11, 500)]);
         of_target.require("the target alone has another length", &[(11..=11, 500)]);
     }

@@ -11,6 +11,7 @@ use sheet_tests::model::Layout;
 use sheet_tests::plan::Plan;
 use sheet_tests::rng::Rng;
 use sheet_tests::scans::{burst, every_burst, random_burst};
+use sheet_tests::sparse::tight;
 
 /// The least rv and the least rh, by 02's sentence.
 fn floors(plan: &Plan) -> (usize, usize) {
@@ -31,7 +32,7 @@ fn at_floor(b1: usize, b2: usize) -> Plan {
     let (rv, rh) = (2 * b1 * b2, b1 * b2);
     let v = (0..rv).map(|k| 1 << k).collect();
     let h = (0..rh).map(|_| 0).chain((0..rh).map(|k| 1 << k)).collect();
-    let shape = Plan { n1: 2 * b1, n2: 2 * b2, b1, b2, rv, rh, v, h, checks: Vec::new() };
+    let shape = Plan { n1: 2 * b1, n2: 2 * b2, b1, b2, t: 0, rv, rh, v, h, checks: Vec::new() };
     shape.with_checks(CellOrder::Sheet, &mut Rng::new(51)).expect("there are enough cells")
 }
 
@@ -130,9 +131,27 @@ fn smaller_sheets_have_none() {
     assert_eq!(number(&mut library, &few_rows), 0);
 
     let (v, h) = (vec![1, 2, 4, 8], vec![0, 0, 1]);
-    let shape = Plan { n1: 2, n2: 3, b1: 1, b2: 2, rv: 4, rh: 1, v, h, checks: Vec::new() };
+    let shape = Plan { n1: 2, n2: 3, b1: 1, b2: 2, t: 0, rv: 4, rh: 1, v, h, checks: Vec::new() };
     let few_columns =
         shape.with_checks(CellOrder::Sheet, &mut Rng::new(55)).expect("there are enough cells");
     assert!(!two_strips(&few_columns) && few_columns.rh < floors(&few_columns).1);
     assert_eq!(number(&mut library, &few_columns), 0);
+}
+
+/// The floors are for bursts of any cells alone: for such of at most one cell or two, plans below them are
+/// accepted, for each size of burst that is large enough.
+#[test]
+fn few_cells_have_none() {
+    let (mut library, mut rng) = (Library::new(56), Rng::new(56));
+    for t in [1, 2] {
+        for (b1, b2) in burst_sizes().filter(|(b1, b2)| b1 * b2 >= 8) {
+            let below = (0..20).find_map(|_| tight(&mut rng, [2 * b1, 2 * b2, b1, b2], t));
+            let plan = below.expect("there are check cells");
+            assert!(two_windows(&plan) && two_strips(&plan));
+            let (rv, rh) = floors(&plan);
+            assert!(plan.rv < rv && plan.rh < rh, "{plan:?}");
+            assert_eq!(number(&mut library, &plan), 0);
+            assert_eq!(number(&mut library, &Plan { t: 0, ..plan }), 8);
+        }
+    }
 }

@@ -54,6 +54,12 @@ fn number_of_putting_back() {
     assert_eq!(constant("SHEET_NOT_A_BURST"), 22);
 }
 
+/// The number of the check of t.
+#[test]
+fn number_of_few_cells() {
+    assert_eq!(constant("SHEET_PLAN_MOST_CELLS"), 23);
+}
+
 #[test]
 fn length_of_a_plans_header() {
     assert_eq!(constant("SHEET_PLAN_HEADER_BYTES"), HEADER_LEN);
@@ -105,6 +111,7 @@ fn null_where_the_length_is_0() {
         (Given { b1: 0, ..HOUSE }, 2),
         (Given { n1: 0, ..HOUSE }, 3),
         (Given { rv: 0, ..HOUSE }, 4),
+        (Given { t: 3, ..HOUSE }, 23),
         (Given { v_low: 0, ..HOUSE }, 5),
     ] {
         assert_eq!(plan_make(&given, &mut [], true), number);

@@ -10,7 +10,7 @@ use sheet_tests::model::{self, altered_data, Cell};
 use sheet_tests::pairs::{check_burst, edge_bursts, hopeless};
 use sheet_tests::plan::Plan;
 use sheet_tests::positions::every_position;
-use sheet_tests::scans::{burst, random_burst, random_sheet, turned};
+use sheet_tests::scans::{burst, random_burst, random_pattern, random_sheet, turned};
 use sheet_tests::tally::Tally;
 
 /// What the library answers to two scans, and the data as it is left: what was held if it refuses, which
@@ -82,7 +82,7 @@ fn bursts_at_corners_and_everywhere() {
         }
         for top in 0..=plan.n1 - b1 {
             for left in 0..=plan.n2 - b2 {
-                let pattern = harness.rng.bits(b1 * b2) | 1;
+                let pattern = random_pattern(plan, &mut harness.rng);
                 let (one, other) =
                     (burst(plan, top, left, pattern), harness.rng.below(edges.len()));
                 gives_its_data(&mut harness, &written, [&one, &edges[other]]);

@@ -155,8 +155,9 @@ fn smallest_sheets_of_the_polynomials_of_full_size() {
 fn limits() {
     let mut harness = Harness::new(16);
     let good = Given { v_low: 0, ..Given::new([10, 10, 2, 3], WIDE, WIDE) };
-    let limits = [(0, 2, 512, 3), (1, 3, 698, 3), (2, 1, 4, 2), (3, 1, 4, 2), (4, 1, 32, 4)];
-    for (place, least, most, number) in limits.into_iter().chain([(6, 1, 32, 4)]) {
+    let sizes = [(0, 2, 512, 3), (1, 3, 698, 3), (2, 1, 4, 2), (3, 1, 4, 2)];
+    let others = [(4, 0, 2, 23), (5, 1, 32, 4), (7, 1, 32, 4)];
+    for (place, least, most, number) in sizes.into_iter().chain(others) {
         for value in (0..=most + 3).chain([255, 256, 65_535, 65_536 + least]) {
             let mut given = good;
             *given.numbers_mut()[place] = value;
@@ -174,9 +175,10 @@ fn limits() {
 fn huge_numbers() {
     let mut harness = Harness::new(11);
     let good = nine_cells();
-    let numbers = [3, 3, 2, 2, 4, 15, 4, 15];
+    let numbers = [3, 3, 2, 2, 23, 4, 15, 4, 15];
     for (place, number) in numbers.into_iter().enumerate() {
-        for bit in 5..32 {
+        // A t of 4 is too large.
+        for bit in if place == 4 { 2..32 } else { 5..32 } {
             let mut low_bits_good = good;
             *low_bits_good.numbers_mut()[place] |= 1 << bit;
             let mut alone = good;
@@ -189,7 +191,7 @@ fn huge_numbers() {
                 let len = if in_limits { given.plan_len() } else { good.plan_len() };
                 let answer = told(&harness.make(&given, len));
                 assert!(answer == number || in_limits && number < 5, "{given:?}: {answer:#x}");
-                for len in [0, 1, 19, 20, 65_536 + len] {
+                for len in [0, 1, 21, 22, 65_536 + len] {
                     let answer = told(&harness.make(&given, len));
                     let expected = if in_limits { 5 } else { number };
                     assert_eq!(answer, expected, "{given:?} in {len}");
@@ -197,11 +199,13 @@ fn huge_numbers() {
             }
         }
     }
-    let [n1, n2, b1, b2, rv, v_low, rh, h_low] = [u32::MAX; 8];
-    let all = Given { n1, n2, b1, b2, rv, v_low, rh, h_low };
+    let [n1, n2, b1, b2, t, rv, v_low, rh, h_low] = [u32::MAX; 9];
+    let all = Given { n1, n2, b1, b2, t, rv, v_low, rh, h_low };
     assert_eq!(harness.make(&all, 60), refused(2, 0, 0));
     assert_eq!(harness.make(&Given { b1: 1, b2: 1, ..all }, 60), refused(3, 0, 0));
-    assert_eq!(harness.make(&Given { b1: 4, b2: 4, n1: 4, n2: 4, ..all }, 60), refused(4, 0, 0));
+    let sizes_good = Given { b1: 4, b2: 4, n1: 4, n2: 4, ..all };
+    assert_eq!(harness.make(&sizes_good, 60), refused(4, 0, 0));
+    assert_eq!(harness.make(&Given { rv: 32, rh: 32, ..sizes_good }, 60), refused(23, 0, 0));
 }
 
 /// Every length about the right one is turned back, and so are such as differ from it by 256 or
@@ -224,16 +228,17 @@ fn lengths() {
 /// What is wrong about numbers or length, one fault for each check that asks no table, in the order
 /// of the checks.
 type Fault = (u64, fn(&mut Given, &mut usize));
-const FAULTS: [Fault; 5] = [
+const FAULTS: [Fault; 6] = [
     (2, |given, _| given.b2 = 5),
     (3, |given, _| given.n1 = 513),
     (4, |given, _| given.rh = 33),
+    (23, |given, _| given.t = 3),
     (5, |_, len| *len += 1),
     (15, |given, _| given.v_low &= !1),
 ];
 
-/// Of several checks that fail, the first in the order 2, 3, 4, 5, 15, 8, 9, 16 is told: each set of
-/// the first five, with tables of each kind.
+/// Of several checks that fail, the first in the order 2, 3, 4, 23, 5, 15, 8, 9, 16 is told: each set of
+/// the first six, with tables of each kind.
 #[test]
 fn order_of_the_checks() {
     let mut harness = Harness::new(13);

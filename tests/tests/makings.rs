@@ -34,7 +34,10 @@ fn random_makings() {
             }
         }
     }
-    tally.require("sheet_plan_make", &[(0..=0, 500), (2..=5, 500), (8..=9, 500), (15..=16, 500)]);
+    tally.require(
+        "sheet_plan_make",
+        &[(0..=0, 500), (2..=5, 500), (8..=9, 500), (15..=16, 500), (23..=23, 300)],
+    );
     require_edges(&made);
 }
 
@@ -53,7 +56,7 @@ type Edge = (&'static str, fn(&Plan) -> bool);
 
 /// Plans at each edge have been made.
 fn require_edges(made: &[Plan]) {
-    let edges: [Edge; 8] = [
+    let edges: [Edge; 10] = [
         ("n1 = b1", |plan| plan.n1 == plan.b1),
         ("n2 = b2", |plan| plan.n2 == plan.b2),
         ("n1 x b2 = rv", |plan| plan.v.len() == plan.rv),
@@ -62,6 +65,8 @@ fn require_edges(made: &[Plan]) {
         ("rh = 32", |plan| plan.rh == 32),
         ("rh = 1", |plan| plan.rh == 1),
         ("k = 0", |plan| plan.data_bits() == 0),
+        ("t = 1", |plan| plan.t == 1),
+        ("t = 2", |plan| plan.t == 2),
     ];
     for (name, at_edge) in edges {
         let count = made.iter().filter(|plan| at_edge(plan)).count();

@@ -19,8 +19,8 @@ use sheet_tests::yardstick;
 
 #[test]
 fn worked_plans() {
-    assert_eq!(plan_s().layout(), [20, 32, 44, 60]);
-    assert_eq!(plan_t().layout(), [20, 36, 52, 76]);
+    assert_eq!(plan_s().layout(), [22, 34, 46, 62]);
+    assert_eq!(plan_t().layout(), [22, 38, 54, 78]);
     for (bytes, expected) in plan_cases() {
         assert_eq!(model::test_plan(&bytes).places(), expected);
     }
@@ -75,6 +75,11 @@ fn odd_rows_run_down() {
     }
 }
 
+/// The bytes of T with this t.
+fn t_bytes(t: u8) -> Vec<u8> {
+    Plan { t: t.into(), ..plan_t() }.encode()
+}
+
 /// Case 12, and each way in which the input can be cut into plan and sheet.
 #[test]
 fn printed_lines() {
@@ -82,15 +87,21 @@ fn printed_lines() {
     let with = |tail: &[u8]| [&t[..], tail].concat();
     assert_eq!(line(&with(&[0x03, 0x05])), "ok 2 0 1 1 2 3 02");
     assert_eq!(line(&with(&[0x05, 0x05])), "ok 0 0 0 0 0 0 02");
+    // With t of 1 a burst of two cells is none.
+    let with_t = |t: u8, tail: [u8; 2]| [&t_bytes(t)[..], &tail].concat();
+    assert_eq!(line(&with_t(1, [0x03, 0x05])), "no 14 0 0");
+    assert_eq!(line(&with_t(1, [0x04, 0x05])), "ok 1 0 0 1 1 1 02");
+    assert_eq!(line(&with_t(2, [0x03, 0x05])), "ok 2 0 1 1 2 3 02");
+    assert_eq!(line(&with_t(3, [0x03, 0x05])), "no 23 0 0");
     assert_eq!(line(&with(&[0x0c, 0x05])), "no 14 0 0");
     assert_eq!(line(&with(&[0x0c, 0x15])), "no 13 1 0");
     assert_eq!(line(&with(&[0x03, 0x05, 0x00])), "no 11 0 0");
     assert_eq!(line(&t), "no 11 0 0");
     assert_eq!(line(&[]), "no 1 0 0");
-    assert_eq!(line(&t[..19]), "no 1 0 0");
-    assert_eq!(line(&t[..75]), "no 5 0 0");
-    // A length field below 20: the plan is 20 bytes all the same.
-    assert_eq!(line(&[[0; 20].as_slice(), &[1]].concat()), "no 2 0 0");
+    assert_eq!(line(&t[..21]), "no 1 0 0");
+    assert_eq!(line(&t[..77]), "no 5 0 0");
+    // A length field below 22: the plan is 22 bytes all the same.
+    assert_eq!(line(&[[0; 22].as_slice(), &[1]].concat()), "no 2 0 0");
     assert_eq!(line(&with(&vec![0; INPUT_LIMIT])), "no 11 0 0");
     assert_eq!(line(&[no_data().encode(), vec![0x02]].concat()), "ok 1 0 1 1 1 1");
     // More than one byte of data stands in one field.

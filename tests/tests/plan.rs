@@ -42,12 +42,12 @@ fn random_plans() {
         }
     }
     edges.require(20);
-    tally.require("sheet_plan_test", &[(0..=0, 300), (1..=10, 100)]);
+    tally.require("sheet_plan_test", &[(0..=0, 300), (1..=10, 100), (23..=23, 100)]);
 }
 
 /// How many accepted plans were at an edge of what the rules allow.
 #[derive(Default)]
-struct Edges([(&'static str, u32); 8]);
+struct Edges([(&'static str, u32); 10]);
 
 impl Edges {
     fn count(&mut self, plan: &Plan) {
@@ -60,6 +60,8 @@ impl Edges {
             ("rv = 32", plan.rv == 32),
             ("rh = 32", plan.rh == 32),
             ("k = 0", plan.data_bits() == 0),
+            ("t = 1", plan.t == 1),
+            ("t = 2", plan.t == 2),
         ];
         for (edge, (name, is_met)) in self.0.iter_mut().zip(met) {
             *edge = (name, edge.1 + u32::from(is_met));
@@ -113,7 +115,7 @@ fn random_tables() {
 #[test]
 fn shortest_inputs() {
     let (mut library, mut rng) = (Library::new(6), Rng::new(7));
-    for len in 0..=21 {
+    for len in 0..=HEADER_LEN + 1 {
         let short = |bytes: Vec<u8>| bytes[..len].to_vec();
         let mut inputs = vec![vec![0; len], vec![0xff; len], rng.bytes(len)];
         inputs.extend([plan_s(), plan_t()].map(|plan| short(plan.encode())));

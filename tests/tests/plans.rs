@@ -1,12 +1,15 @@
-//! The table of docs/PLANS.md, read out of the page: each row is made by the call, byte for byte as by
-//! the model, and serves; and no smaller polynomial would do, where that is quickly tried.
+//! The tables of docs/PLANS.md, read out of the page: each row is made by the call, byte for byte as by
+//! the model, and serves; and no smaller polynomial would do, where that is quickly tried. One is for bursts
+//! of any cells, and one for such as have at most one cell, or two.
 
 use sheet_tests::compared::{told, Harness};
 use sheet_tests::given::{Given, HOUSE};
 use sheet_tests::make::{burst_sizes, powers, Polynomial, H_4X4};
-use sheet_tests::model::{independent, strip_members, window_entries};
+use sheet_tests::model::{independent, strip_members, window_entries, Layout};
 use sheet_tests::plan::Plan;
-use sheet_tests::scans::burst;
+use sheet_tests::scans::{burst, full_burst};
+use sheet_tests::sparse::polynomials_4x4;
+use sheet_tests::yardstick::{sparse_first_strips, sparse_first_windows};
 
 const PAGE: &str = include_str!("../../docs/PLANS.md");
 const PROMISE: &str = include_str!("../../docs/PROMISE.md");
@@ -28,13 +31,7 @@ impl Row {
         else {
             return None;
         };
-        let (b1, b2) = pair(size)?;
-        let (n1, n2) = pair(sheet)?;
-        let polynomial = |degree: &str, low: &str| {
-            let low = u32::from_str_radix(low.strip_prefix("0x")?, 16).ok()?;
-            Some(Polynomial { degree: degree.parse().ok()?, low })
-        };
-        let given = Given::new([n1, n2, b1, b2], polynomial(rv, v)?, polynomial(rh, h)?);
+        let given = given([size, sheet], [rv, v, rh, h])?;
         let [rv_floor, rh_floor, floor] = [rv_floor, rh_floor, floor].map(|cell| cell.parse().ok());
         let floors = [rv_floor?, rh_floor?, floor?];
         Some(Row { given, check_cells: check_cells.parse().ok()?, floors })
@@ -45,6 +42,38 @@ impl Row {
     }
 }
 
+/// A row of the table for bursts of few cells.
+#[derive(Debug)]
+struct SparseRow {
+    given: Given,
+    check_cells: usize,
+    /// The check cells for bursts of any cells, if there is a plan of the same size.
+    with_any: Option<usize>,
+}
+
+impl SparseRow {
+    /// `| b1 × b2 | t | n1 × n2 | rv | V | rh | H | check cells | with t = 0 |`; none for other lines.
+    fn parse(line: &str) -> Option<SparseRow> {
+        let cells: Vec<&str> = line.strip_prefix('|')?.split('|').map(str::trim).collect();
+        let &[size, t, sheet, rv, v, rh, h, check_cells, with_any, ""] = &cells[..] else {
+            return None;
+        };
+        let given = Given { t: t.parse().ok()?, ..given([size, sheet], [rv, v, rh, h])? };
+        let with_any = if with_any == "none" { None } else { Some(with_any.parse().ok()?) };
+        Some(SparseRow { given, check_cells: check_cells.parse().ok()?, with_any })
+    }
+}
+
+/// Sizes of burst and sheet, and the degrees of two polynomials, each with what is below it.
+fn given([size, sheet]: [&str; 2], [rv, v, rh, h]: [&str; 4]) -> Option<Given> {
+    let ((b1, b2), (n1, n2)) = (pair(size)?, pair(sheet)?);
+    let polynomial = |degree: &str, low: &str| {
+        let low = u32::from_str_radix(low.strip_prefix("0x")?, 16).ok()?;
+        Some(Polynomial { degree: degree.parse().ok()?, low })
+    };
+    Some(Given::new([n1, n2, b1, b2], polynomial(rv, v)?, polynomial(rh, h)?))
+}
+
 fn pair(cell: &str) -> Option<(u32, u32)> {
     let (left, right) = cell.split_once(" × ")?;
     Some((left.parse().ok()?, right.parse().ok()?))
@@ -53,6 +82,12 @@ fn pair(cell: &str) -> Option<(u32, u32)> {
 /// The rows of the page. A line that is not understood is left out: `every_burst_size` notices.
 fn rows() -> Vec<Row> {
     PAGE.lines().filter_map(Row::parse).collect()
+}
+
+/// The rows for bursts of few cells. A line that is not understood is left out: `every_size_of_few_cells`
+/// notices.
+fn sparse_rows() -> Vec<SparseRow> {
+    PAGE.lines().filter_map(SparseRow::parse).collect()
 }
 
 fn row(b1: u32, b2: u32) -> Row {
@@ -68,6 +103,28 @@ fn every_burst_size() {
     for Row { given, .. } in rows {
         let largest = (given.n1, given.n2) == (512, 698);
         assert_eq!(largest, (given.b1, given.b2) != (4, 4), "{given:?}");
+    }
+}
+
+/// One row for t of 1 and one for t of 2, of every size of burst, at full size. Where any burst has at most
+/// t cells, it is the row of the first table; the check cells beside are that table's, if it has full size
+/// there.
+#[test]
+fn every_size_of_few_cells() {
+    let rows = sparse_rows();
+    let of_size = |(b1, b2)| [1, 2].map(|t| [b1 as u32, b2 as u32, t]);
+    let sizes: Vec<_> = rows.iter().map(|row| [row.given.b1, row.given.b2, row.given.t]).collect();
+    assert_eq!(sizes, burst_sizes().flat_map(of_size).collect::<Vec<_>>());
+    for SparseRow { given, check_cells, with_any } in rows {
+        let any = row(given.b1, given.b2);
+        assert_eq!((given.n1, given.n2), (512, 698), "{given:?}");
+        assert_eq!(check_cells, (given.rv + given.rh) as usize, "{given:?}");
+        let is_full = any.given.n1 == 512;
+        assert_eq!(with_any, is_full.then_some(any.check_cells), "{given:?}");
+        if given.t >= given.b1 * given.b2 {
+            assert_eq!(Given { t: 0, ..given }, any.given);
+        }
+        assert!(with_any.is_none_or(|with_any| check_cells <= with_any), "{given:?}");
     }
 }
 
@@ -118,6 +175,28 @@ fn each_row_is_made_and_serves() {
     }
 }
 
+/// The same for bursts of few cells: in each rectangle at the corners of the sheet and in one amid it, as
+/// many cells as a burst may have.
+#[test]
+fn each_row_of_few_cells_is_made_and_serves() {
+    let mut harness = Harness::new(43);
+    for SparseRow { given, check_cells, .. } in sparse_rows() {
+        let plan = harness.make_in_its_length(&given);
+        let plan = plan.unwrap_or_else(|refusal| panic!("{given:?}: {refusal:?}"));
+        assert_eq!((plan.checks.len(), plan.t), (check_cells, given.t as usize), "{given:?}");
+        let written = harness.written_accepted(plan);
+        let plan = &written.plan;
+        let (bottom, right) = (plan.n1 - plan.b1, plan.n2 - plan.b2);
+        let amid = (harness.rng.within(1, bottom - 1), harness.rng.within(1, right - 1));
+        for (top, left) in [(0, 0), (0, right), (bottom, 0), (bottom, right), amid] {
+            let cells = full_burst(plan, top, left);
+            assert_eq!(cells.len(), plan.most_cells());
+            harness.mends(&written, &cells);
+            harness.mends_in(Layout::Columns, &written, &cells);
+        }
+    }
+}
+
 /// The polynomials that other tests and the example host name are the page's.
 #[test]
 fn house_plan() {
@@ -127,6 +206,12 @@ fn house_plan() {
     assert!(HOST.contains(&in_c), "{in_c}");
     let Given { rh, h_low, .. } = row(4, 4).given;
     assert_eq!((rh as usize, h_low), (H_4X4.degree, H_4X4.low));
+    for SparseRow { given, .. } in
+        sparse_rows().iter().filter(|row| row.given.b1 * row.given.b2 == 16)
+    {
+        let named = polynomials_4x4(given.t as usize).map(|of| (of.degree as u32, of.low));
+        assert_eq!(given.polynomials(), named);
+    }
 }
 
 /// With one row more the V of 4 × 4 bursts fails, as the page says.
@@ -193,4 +278,31 @@ fn first_of_the_least_degree() {
     let (tables, tried) = (tried.len(), tried.iter().sum::<usize>());
     println!("{tried} polynomials fail that come before those of {tables} tables");
     assert!(tables > 20, "{tables}");
+}
+
+/// The same for bursts of few cells, where all degrees are low; by the Rust that the library is timed
+/// against, which is tested beside the model.
+#[test]
+fn first_of_the_least_degree_for_few_cells() {
+    let mut tried = Vec::new();
+    for SparseRow { given, .. } in sparse_rows() {
+        let [v, h] =
+            given.polynomials().map(|(degree, low)| Polynomial { degree: degree as usize, low });
+        let v_fails = |n1: usize, v: Polynomial| {
+            let entries = powers(n1 * given.b2 as usize, v);
+            sparse_first_windows(&Plan { n1, v: entries, ..given.sizes() }).is_some()
+        };
+        let h_fails = |n2: usize, h: Polynomial| {
+            let entries = powers(n2 * given.b1 as usize, h);
+            sparse_first_strips(&Plan { n2, h: entries, ..given.sizes() }).is_some()
+        };
+        tried.extend(all_before_fail(v, given.n1, v_fails));
+        tried.extend(all_before_fail(h, given.n2, h_fails));
+        assert!(!v_fails(512, v) && !h_fails(698, h), "{given:?}");
+    }
+    println!(
+        "{} polynomials fail that come before those of few cells",
+        tried.iter().sum::<usize>()
+    );
+    assert_eq!(tried.len(), 64);
 }

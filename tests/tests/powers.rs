@@ -1,27 +1,21 @@
 //! sheet_plan_test beside the model on tables of powers, in which each entry is z times the one before
 //! modulo one polynomial, and on tables that are nearly so. Where z has an inverse, one row of pairs
-//! decides for all; a plan test that takes this way for a table that is only nearly so is found here.
+//! decides for all; a plan test that takes this way for a table that is only nearly so is found here. All
+//! of it for bursts of any cells, of at most one and of at most two.
 
 use std::collections::BTreeSet;
 
 use sheet_tests::answer::Answer;
 use sheet_tests::compared::plan_test;
 use sheet_tests::ffi::Library;
-use sheet_tests::make::{
-    burst_sizes, least_widths, most_checks, powers, powers_from, CellOrder, Polynomial,
-};
+use sheet_tests::make::{burst_sizes, CellOrder};
 use sheet_tests::plan::Plan;
 use sheet_tests::rng::Rng;
+use sheet_tests::tables::{
+    from_another, of_powers, of_two_polynomials, random, shifted, small_plan, with_entry_changed,
+    without_inverse, zeros, Table,
+};
 use sheet_tests::tally::Tally;
-
-/// A plan of these tables on a small sheet.
-fn small_plan(rng: &mut Rng, b1: usize, b2: usize, v: Table, h: Table) -> Plan {
-    let mut shape = small_shape(b1, b2, rng);
-    shape.v = v(rng, shape.n1 * b2, shape.rv);
-    shape.h = h(rng, shape.n2 * b1, shape.rh);
-    let order = rng.pick(&[CellOrder::Sheet, CellOrder::Scattered]);
-    with_any_checks(shape, order, rng)
-}
 
 /// The plan with one entry changed, at each place in turn.
 fn change_each(library: &mut Library, rng: &mut Rng, plan: &Plan, tally: &mut Tally) {
@@ -29,76 +23,6 @@ fn change_each(library: &mut Library, rng: &mut Rng, plan: &Plan, tally: &mut Ta
         let other = with_entry_changed(plan, at, rng);
         tally.count(plan_test(library, &other.encode()));
     }
-}
-
-/// A way to make a table: of so many entries, below 2 to the power of this width.
-type Table = fn(&mut Rng, usize, usize) -> Vec<u32>;
-
-/// Sizes, and room for a check list, most often one that can be independent. The widths are any, or
-/// about the least that can be accepted.
-fn small_shape(b1: usize, b2: usize, rng: &mut Rng) -> Plan {
-    loop {
-        let (n1, n2) = (rng.within(b1, b1 + 9), rng.within(b2, b2 + 9));
-        let (least_rv, least_rh) = least_widths(n1, n2, b1, b2);
-        let mut width = |least: usize| match rng.below(4) {
-            0 => rng.within(1, 32),
-            1 => least.min(32),
-            _ => rng.within(least + 1, least + 10).min(32),
-        };
-        let (rv, rh) = (width(least_rv), width(least_rh));
-        let most = most_checks(n1, n2, b1, b2);
-        let room = if rng.one_in(4) { n1 * n2 } else { most.min(n1 * n2) };
-        if rv + rh <= room {
-            return Plan { n1, n2, b1, b2, rv, rh, v: vec![], h: vec![], checks: vec![] };
-        }
-    }
-}
-
-/// The plan with check cells that are independent, or with the first cells if there are too few.
-fn with_any_checks(plan: Plan, order: CellOrder, rng: &mut Rng) -> Plan {
-    plan.clone().with_checks(order, rng).unwrap_or_else(|| plan.with_first_cells())
-}
-
-/// A random polynomial of this degree with constant term 1.
-fn invertible(rng: &mut Rng, degree: usize) -> Polynomial {
-    Polynomial { degree, low: rng.bits(degree) | 1 }
-}
-
-fn of_powers(rng: &mut Rng, count: usize, width: usize) -> Vec<u32> {
-    powers(count, invertible(rng, width))
-}
-
-/// The same with constant term 0: z has no inverse, and a power may be 0.
-fn without_inverse(rng: &mut Rng, count: usize, width: usize) -> Vec<u32> {
-    let modulus = invertible(rng, width);
-    powers(count, Polynomial { low: modulus.low & !1, ..modulus })
-}
-
-fn from_another(rng: &mut Rng, count: usize, width: usize) -> Vec<u32> {
-    let first = rng.bits(width);
-    powers_from(first, count, invertible(rng, width))
-}
-
-fn zeros(_: &mut Rng, count: usize, _: usize) -> Vec<u32> {
-    vec![0; count]
-}
-
-fn random(rng: &mut Rng, count: usize, width: usize) -> Vec<u32> {
-    (0..count).map(|_| rng.bits(width)).collect()
-}
-
-/// Powers modulo one polynomial, and from some place on modulo another.
-fn of_two_polynomials(rng: &mut Rng, count: usize, width: usize) -> Vec<u32> {
-    let mut entries = of_powers(rng, count, width);
-    let place = rng.below(count);
-    let rest = powers_from(entries[place], count - place, invertible(rng, width));
-    entries.splice(place.., rest);
-    entries
-}
-
-/// z^k with no modulus: the digit that has no room is lost, and zeros follow.
-fn shifted(_: &mut Rng, count: usize, width: usize) -> Vec<u32> {
-    powers(count, Polynomial { degree: width, low: 0 })
 }
 
 /// The numbers that every way must meet so often: accepted, rows, columns, check cells.
@@ -112,37 +36,23 @@ fn require(tally: &Tally, what: &str, least: [u64; 4]) {
 #[test]
 fn powers_and_one_entry_changed() {
     let (mut library, mut rng) = (Library::new(21), Rng::new(!21));
-    let (mut whole, mut changed) = (Tally::default(), Tally::default());
     let (mut v_degrees, mut h_degrees) = (BTreeSet::new(), BTreeSet::new());
-    for (b1, b2) in burst_sizes() {
-        for _ in 0..250 {
-            let plan = small_plan(&mut rng, b1, b2, of_powers, of_powers);
-            v_degrees.insert(plan.rv);
-            h_degrees.insert(plan.rh);
-            whole.count(plan_test(&mut library, &plan.encode()));
-            change_each(&mut library, &mut rng, &plan, &mut changed);
+    for (t, plans) in [(0, 250), (1, 120), (2, 120)] {
+        let (mut whole, mut changed) = (Tally::default(), Tally::default());
+        for (b1, b2) in burst_sizes() {
+            for _ in 0..plans {
+                let plan = small_plan(&mut rng, [b1, b2, t], of_powers, of_powers);
+                v_degrees.insert(plan.rv);
+                h_degrees.insert(plan.rh);
+                whole.count(plan_test(&mut library, &plan.encode()));
+                change_each(&mut library, &mut rng, &plan, &mut changed);
+            }
         }
+        require(&whole, &format!("t {t}, powers"), [400, 300, 300, 400]);
+        let least = [5000, 10_000, 10_000, 10_000];
+        require(&changed, &format!("t {t}, powers with one entry changed"), least);
     }
     assert!(v_degrees.into_iter().eq(1..=32) && h_degrees.into_iter().eq(1..=32));
-    require(&whole, "powers", [400, 500, 500, 500]);
-    require(&changed, "powers with one entry changed", [5000, 10_000, 10_000, 10_000]);
-}
-
-/// The plan with the entry at this place, V before H, changed to another that is small enough: to any,
-/// in one bit, or to another entry of the table.
-fn with_entry_changed(plan: &Plan, at: usize, rng: &mut Rng) -> Plan {
-    let mut plan = plan.clone();
-    let (table, width, at) = match at.checked_sub(plan.v.len()) {
-        None => (&mut plan.v, plan.rv, at),
-        Some(at) => (&mut plan.h, plan.rh, at),
-    };
-    let other = match rng.below(3) {
-        0 => rng.bits(width),
-        1 => table[at] ^ 1 << rng.below(width),
-        _ => table[rng.below(table.len())],
-    };
-    table[at] = if other == table[at] { other ^ 1 } else { other };
-    plan
 }
 
 /// Tables of other kinds, one or both.
@@ -159,20 +69,22 @@ fn near_powers() {
         ("from another entry than 1", from_another, from_another, some),
         ("two polynomials in V", of_two_polynomials, of_powers, some),
         ("two polynomials in H", of_powers, of_two_polynomials, some),
-        ("shifted out", shifted, shifted, [20, 200, 200, 20]),
+        ("shifted out", shifted, shifted, [5, 200, 200, 20]),
         // A window of zeros is dependent; so are two strips, where there are two.
         ("V all 0", zeros, of_powers, [0, 1600, 0, 0]),
         ("H all 0", of_powers, zeros, [0, 200, 200, 10]),
     ];
     for (what, v, h, least) in kinds {
-        let mut tally = Tally::default();
-        for (b1, b2) in burst_sizes() {
-            for _ in 0..100 {
-                let plan = small_plan(&mut rng, b1, b2, v, h);
-                tally.count(plan_test(&mut library, &plan.encode()));
+        for t in 0..=2 {
+            let mut tally = Tally::default();
+            for (b1, b2) in burst_sizes() {
+                for _ in 0..100 {
+                    let plan = small_plan(&mut rng, [b1, b2, t], v, h);
+                    tally.count(plan_test(&mut library, &plan.encode()));
+                }
             }
+            require(&tally, &format!("t {t}, {what}"), least);
         }
-        require(&tally, what, least);
     }
 }
 
@@ -186,20 +98,23 @@ fn nothing_reduced() {
     for (what, short, least) in
         [("short V", short_v, [10, 0, 50, 50]), ("short H", short_h, [5, 50, 0, 50])]
     {
-        let (mut whole, mut changed) = (Tally::default(), Tally::default());
-        for (b1, b2) in burst_sizes() {
-            let mut found = 0;
-            while found < 50 {
-                let plan = small_plan(&mut rng, b1, b2, of_powers, of_powers);
-                if short(&plan) {
-                    found += 1;
-                    whole.count(plan_test(&mut library, &plan.encode()));
-                    change_each(&mut library, &mut rng, &plan, &mut changed);
+        for t in 0..=2 {
+            let (mut whole, mut changed) = (Tally::default(), Tally::default());
+            for (b1, b2) in burst_sizes() {
+                let mut found = 0;
+                while found < 50 {
+                    let plan = small_plan(&mut rng, [b1, b2, t], of_powers, of_powers);
+                    if short(&plan) {
+                        found += 1;
+                        whole.count(plan_test(&mut library, &plan.encode()));
+                        change_each(&mut library, &mut rng, &plan, &mut changed);
+                    }
                 }
             }
+            let what = format!("t {t}, {what}");
+            require(&whole, &what, least);
+            require(&changed, &format!("{what}, one entry changed"), [100, 500, 100, 500]);
         }
-        require(&whole, what, least);
-        require(&changed, &format!("{what}, one entry changed"), [100, 500, 100, 500]);
     }
 }
 
@@ -208,29 +123,33 @@ fn nothing_reduced() {
 #[test]
 fn full_size() {
     let (mut library, mut rng) = (Library::new(24), Rng::new(!24));
-    let mut tally = Tally::default();
-    let mut farthest = [0; 15];
-    let mut accepted = None;
-    for round in 0..30 {
-        let (rv, rh) = if round % 2 == 0 { (18 + round % 15, 32) } else { (32, 9 + round % 13) };
-        let v = of_powers(&mut rng, 3 * 512, rv);
-        let h = of_powers(&mut rng, 3 * 698, rh);
-        let plan = Plan { n1: 512, n2: 698, b1: 3, b2: 3, rv, rh, v, h, checks: vec![] };
-        let plan = with_any_checks(plan, CellOrder::Sheet, &mut rng);
-        let answer = plan_test(&mut library, &plan.encode());
-        tally.count(answer);
-        let Answer { number, q, .. } = Answer::unpack(answer);
-        farthest[number as usize] = q.max(farthest[number as usize]);
-        if number == 0 {
-            accepted.get_or_insert(plan);
+    for (t, least_rv, least_rh) in [(0, 18, 9), (1, 7, 6), (2, 13, 9)] {
+        let mut tally = Tally::default();
+        let mut farthest = [0; 15];
+        let mut accepted = None;
+        for round in 0..30 {
+            let narrow_rv = round % 2 == 0;
+            let rv = if narrow_rv { least_rv + round % 15 } else { 32 };
+            let rh = if narrow_rv { 32 } else { least_rh + round % 13 };
+            let v = of_powers(&mut rng, 3 * 512, rv);
+            let h = of_powers(&mut rng, 3 * 698, rh);
+            let plan = Plan { n1: 512, n2: 698, b1: 3, b2: 3, t, rv, rh, v, h, checks: vec![] };
+            let plan = plan.with_any_checks(CellOrder::Sheet, &mut rng);
+            let answer = plan_test(&mut library, &plan.encode());
+            tally.count(answer);
+            let Answer { number, q, .. } = Answer::unpack(answer);
+            farthest[number as usize] = q.max(farthest[number as usize]);
+            if number == 0 {
+                accepted.get_or_insert(plan);
+            }
         }
+        let plan = accepted.expect("some plan is accepted");
+        for at in [0, plan.v.len() - 1, plan.v.len(), plan.v.len() + plan.h.len() - 1] {
+            let other = with_entry_changed(&plan, at, &mut rng);
+            tally.count(plan_test(&mut library, &other.encode()));
+        }
+        require(&tally, &format!("t {t}, full size"), [5, 5, 5, 0]);
+        println!("farthest apart: windows {}, strips {}", farthest[8], farthest[9]);
+        assert!(farthest[8] >= 100 && farthest[9] >= 100);
     }
-    let plan = accepted.expect("some plan is accepted");
-    for at in [0, plan.v.len() - 1, plan.v.len(), plan.v.len() + plan.h.len() - 1] {
-        let other = with_entry_changed(&plan, at, &mut rng);
-        tally.count(plan_test(&mut library, &other.encode()));
-    }
-    require(&tally, "full size", [5, 5, 5, 0]);
-    println!("farthest apart: windows {}, strips {}", farthest[8], farthest[9]);
-    assert!(farthest[8] >= 100 && farthest[9] >= 100);
 }

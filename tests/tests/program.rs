@@ -11,7 +11,8 @@ use sheet_tests::model;
 use sheet_tests::pairs::hopeless;
 use sheet_tests::plan::{field, set_header_field, Plan};
 use sheet_tests::rng::Rng;
-use sheet_tests::scans::{burst, random_burst, random_data, random_sheet, turned};
+use sheet_tests::scans::{full_burst, random_burst, random_data, random_sheet, turned};
+use sheet_tests::sparse::few_of_4x4;
 use sheet_tests::trials::{trial_cases, AT_THE_MOST, OF_4X4, ONE_CELL_MORE};
 use std::env;
 use std::fs::File;
@@ -80,6 +81,24 @@ fn case_12() {
     assert_eq!(compare(&joined(&plan_t().encode(), &[0x03, 0x05])), "ok 2 0 1 1 2 3 02\n");
 }
 
+/// T with t of 1, under which two cells are no burst, and of 2; with t over 2, and such that its low byte
+/// would be good.
+#[test]
+fn few_cells() {
+    let with_t = |t, sheet: [u8; 2]| joined(&Plan { t, ..plan_t() }.encode(), &sheet);
+    for (t, sheet, expected) in [
+        (1, [0x03, 0x05], "no 14 0 0\n"),
+        (1, [0x04, 0x05], "ok 1 0 0 1 1 1 02\n"),
+        (1, [0x05, 0x05], "ok 0 0 0 0 0 0 02\n"),
+        (2, [0x03, 0x05], "ok 2 0 1 1 2 3 02\n"),
+        (3, [0x03, 0x05], "no 23 0 0\n"),
+        (256, [0x03, 0x05], "no 23 0 0\n"),
+        (65_535, [0x03, 0x05], "no 23 0 0\n"),
+    ] {
+        assert_eq!(compare(&with_t(t, sheet)), expected, "t {t}");
+    }
+}
+
 #[test]
 fn short_inputs() {
     let whole = joined(&plan_t().encode(), &[0x03, 0x05]);
@@ -92,7 +111,7 @@ fn short_inputs() {
 #[test]
 fn length_field_above_and_below() {
     let whole = joined(&plan_t().encode(), &[0x03, 0x05]);
-    for told in [0, 1, 19, 20, 21, 75, 76, 77, 78, 79, 1000, 65_535] {
+    for told in [0, 1, 20, 21, 22, 23, 76, 77, 78, 79, 80, 81, 1000, 65_535] {
         let mut input = whole.clone();
         set_header_field(&mut input, field::LENGTH, told);
         compare(&input);
@@ -139,9 +158,12 @@ fn slow_pipe() {
 #[test]
 fn full_size() {
     let mut rng = Rng::new(73);
-    let plan = powers_3x3(512, 698, CellOrder::Sheet, &mut rng);
-    assert!(compare(&blotted(&plan, &mut rng)).starts_with("ok "));
-    assert!(compare(&joined(&plan.encode(), &random_sheet(&plan, &mut rng))).starts_with("no 14 "));
+    let few = few_of_4x4([512, 698], 2, CellOrder::Sheet, &mut rng);
+    for plan in [powers_3x3(512, 698, CellOrder::Sheet, &mut rng), few] {
+        assert!(compare(&blotted(&plan, &mut rng)).starts_with("ok "));
+        let lost = hopeless(&plan, &mut rng).expect("not every sheet can be mended");
+        assert!(compare(&joined(&plan.encode(), &lost)).starts_with("no 14 "));
+    }
 }
 
 #[test]
@@ -189,7 +211,7 @@ fn at_64_and_65_cells() {
         let sheet = model::write_sheet(&plan, &data);
         let digits: String = data.iter().map(|byte| format!("{byte:02x}")).collect();
         let last = (plan.n1 - plan.b1, plan.n2 - plan.b2);
-        let full = [(0, 0), last].map(|(top, left)| burst(&plan, top, left, u32::MAX));
+        let full = [(0, 0), last].map(|(top, left)| full_burst(&plan, top, left));
         for cells in full.into_iter().chain([vec![], random_burst(&plan, &mut rng)]) {
             let out = compare(&joined(&bytes, &turned(&plan, &sheet, &cells)));
             let numbers = model::smallest_rectangle(&cells).mended().map(|n| n.to_string());

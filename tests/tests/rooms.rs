@@ -135,7 +135,7 @@ fn two_runs_turned_back() {
             }
         }
     }
-    let least = [(1..=10, 5), (12..=12, 500), (20..=21, 500)];
+    let least = [(1..=10, 5), (23..=23, 5), (12..=12, 500), (20..=21, 500)];
     tally.require("pairs of runs, turned back", &least);
 }
 

@@ -106,7 +106,14 @@ fn order_of_the_checks() {
             }
         }
     }
-    let least = [(0..=0, 3), (1..=10, 1000), (12..=12, 10), (20..=20, 1000), (21..=21, 100)];
+    let least = [
+        (0..=0, 3),
+        (1..=10, 1000),
+        (23..=23, 1000),
+        (12..=12, 10),
+        (20..=20, 1000),
+        (21..=21, 100),
+    ];
     tally.require("sheet_read_stack, more than one check fails", &least);
 }
 
@@ -234,9 +241,9 @@ fn every_number() {
             }
         }
     }
-    let least = [(0..=0, 5000), (1..=10, 50), (12..=12, 100), (20..=21, 500)];
+    let least = [(0..=0, 5000), (1..=10, 50), (23..=23, 50), (12..=12, 100), (20..=21, 500)];
     tally.require("sheet_read_stack", &least);
-    assert!([11].into_iter().chain(13..20).chain(22..32).all(|number| tally.met(number) == 0));
+    assert!([11, 22].into_iter().chain(13..20).chain(24..32).all(|number| tally.met(number) == 0));
     of_sheets.require("its sheets", &[(0..=0, 5000), (13..=14, 1000)]);
     assert!((1..13).chain(15..32).all(|number| of_sheets.met(number) == 0));
 }

@@ -99,8 +99,11 @@ fn every_number() {
             }
         }
     }
-    tally.require("sheet_sums", &[(0..=0, 1000), (1..=11, 100), (13..=13, 100), (24..=24, 100)]);
-    let others = [12].into_iter().chain(14..24).chain(25..32);
+    tally.require(
+        "sheet_sums",
+        &[(0..=0, 1000), (1..=11, 100), (23..=23, 100), (13..=13, 100), (24..=24, 100)],
+    );
+    let others = [12].into_iter().chain(14..23).chain(25..32);
     assert!(others.into_iter().all(|number| tally.met(number) == 0));
 }
 
@@ -133,7 +136,8 @@ fn order_of_the_checks() {
             }
         }
     }
-    let least = [(0..=0, 4), (1..=10, 100), (11..=11, 50), (13..=13, 50), (24..=24, 20)];
+    let least =
+        [(0..=0, 4), (1..=10, 100), (23..=23, 100), (11..=11, 50), (13..=13, 50), (24..=24, 20)];
     tally.require("sheet_sums, more than one check fails", &least);
 }
 

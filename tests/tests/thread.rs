@@ -17,7 +17,8 @@ use sheet_tests::pairs::{difference_of, hopeless, row_places};
 use sheet_tests::plan::Plan;
 use sheet_tests::rng::Rng;
 use sheet_tests::runs::whole;
-use sheet_tests::scans::{burst, dark_sheet, random_data, turned};
+use sheet_tests::scans::{dark_sheet, full_burst, random_data, turned};
+use sheet_tests::sparse::{few_of_4x4, late_refusals, polynomials_4x4, reversed_4x4};
 use sheet_tests::stacks::{told_of, Lent};
 
 /// Make a call in a thread that has this much stack in all, for the call and for itself.
@@ -27,13 +28,25 @@ fn with_stack<T: Send + 'static>(bytes: usize, call: impl FnOnce() -> T + Send +
     call.join().expect("the call returns")
 }
 
-/// Plans of full size.
-fn large_plans(rng: &mut Rng) -> [Plan; 3] {
+/// Plans of full size: for bursts of any cells, and of at most one or two, with tables of powers and with
+/// others.
+fn large_plans(rng: &mut Rng) -> [Plan; 7] {
+    let (order, full) = (CellOrder::Sheet, [512, 698]);
     [
         powers_1x1(CellOrder::Scattered, rng),
-        powers_3x3(512, 698, CellOrder::Sheet, rng),
-        largest_4x4(CellOrder::Sheet, rng),
+        powers_3x3(512, 698, order, rng),
+        largest_4x4(order, rng),
+        few_of_4x4(full, 1, order, rng),
+        few_of_4x4(full, 2, order, rng),
+        reversed_4x4(full, 1, order, rng),
+        reversed_4x4(full, 2, order, rng),
     ]
+}
+
+/// The numbers of a plan of full size for bursts of at most t cells, but for t.
+fn few(t: usize) -> Given {
+    let [v, h] = polynomials_4x4(t);
+    Given::new([512, 698, 4, 4], v, h)
 }
 
 /// Full size, with all numbers that come after the tables: made, 8, 9 and 16.
@@ -48,6 +61,11 @@ fn stack_of_making() {
         (Given::new([512, 698, 4, 4], WIDE, H_4X4), 8),
         (Given::new([8, 698, 4, 4], WIDE, H_3X3), 9),
         (Given::new([512, 698, 3, 3], V_EVEN, H_EVEN), 16),
+        (Given { t: 1, ..few(1) }, 0),
+        (Given { t: 2, ..few(2) }, 0),
+        // The tables for bursts of at most one cell do not serve for such of two.
+        (Given { t: 2, rv: few(1).rv, v_low: few(1).v_low, ..few(2) }, 8),
+        (Given { t: 2, rh: few(1).rh, h_low: few(1).h_low, ..few(2) }, 9),
     ] {
         let len = given.plan_len();
         let (mut plan, mut expected) = (vec![0xff; len], vec![0xff; len]);
@@ -86,6 +104,19 @@ fn stack_of_the_plan_test() {
     }
 }
 
+/// Refused by the last pairs of windows and of strips that can be the first to fail, for bursts of few cells.
+#[test]
+fn stack_of_late_refusals() {
+    let enough = constant("SHEET_PLAN_TEST_STACK");
+    for t in [1, 2] {
+        for (plan, told) in late_refusals(t, &mut Rng::new(12)) {
+            let bytes = plan.encode();
+            let answer = with_stack(enough, move || SHEET.plan_test(&bytes));
+            assert_eq!(Answer::unpack(answer), told, "{t} cells");
+        }
+    }
+}
+
 /// Writing and reading sheets in this layout. The scan has a full burst in the last corner, where a search in sheet
 /// order comes last.
 fn writes_and_reads(layout: Layout, enough: usize, rng: &mut Rng) {
@@ -103,7 +134,7 @@ fn writes_and_reads(layout: Layout, enough: usize, rng: &mut Rng) {
         });
         assert!(answer == 0 && sheet == written);
 
-        let cells = burst(&plan, plan.n1 - plan.b1, plan.n2 - plan.b2, u32::MAX);
+        let cells = full_burst(&plan, plan.n1 - plan.b1, plan.n2 - plan.b2);
         let mut scan = layout.of_rows(&plan, turned(&plan, &by_rows, &cells));
         let mut into = vec![0xff; data.len()];
         let (answer, scan, into) =
@@ -131,7 +162,7 @@ fn stack_of_reading_by_trial() {
     let mut rng = Rng::new(10);
     for plan in large_plans(&mut rng) {
         let written = model::write_sheet(&plan, &random_data(&plan, &mut rng));
-        let mut scans = vec![(turned(&plan, &written, &burst(&plan, 0, 0, u32::MAX)), 0)];
+        let mut scans = vec![(turned(&plan, &written, &full_burst(&plan, 0, 0)), 0)];
         if plan.b1 == 1 {
             scans.push((hopeless(&plan, &mut rng).expect("not every sheet can be mended"), 14));
         }
@@ -225,7 +256,7 @@ fn stack_of_altering() {
 fn stack_of_putting_back() {
     let enough = constant("SHEET_PUT_BACK_STACK");
     for plan in large_plans(&mut Rng::new(11)) {
-        let cells = burst(&plan, plan.n1 - plan.b1, plan.n2 - plan.b2, u32::MAX);
+        let cells = full_burst(&plan, plan.n1 - plan.b1, plan.n2 - plan.b2);
         let last = model::smallest_rectangle(&cells).pack();
         let (good, mut bad) = (dark_sheet(&plan), dark_sheet(&plan));
         bad[plan.sheet_len() - 1] |= 0x80;
@@ -252,7 +283,7 @@ fn stack_of_reading_two() {
     for plan in large_plans(&mut rng) {
         let [written, other] =
             [(); 2].map(|()| model::write_sheet(&plan, &random_data(&plan, &mut rng)));
-        let cells = burst(&plan, plan.n1 - plan.b1, plan.n2 - plan.b2, u32::MAX);
+        let cells = full_burst(&plan, plan.n1 - plan.b1, plan.n2 - plan.b2);
         let scan = turned(&plan, &written, &cells);
         let lost = hopeless(&plan, &mut rng).expect("not every sheet can be mended");
         for (first, second, number) in [
@@ -301,7 +332,7 @@ fn stack_of_reading_stacks() {
     let mut rng = Rng::new(7);
     for plan in large_plans(&mut rng) {
         let written = model::write_sheet(&plan, &random_data(&plan, &mut rng));
-        let cells = burst(&plan, plan.n1 - plan.b1, plan.n2 - plan.b2, u32::MAX);
+        let cells = full_burst(&plan, plan.n1 - plan.b1, plan.n2 - plan.b2);
         let scan = turned(&plan, &written, &cells);
         let lost = hopeless(&plan, &mut rng).expect("not every sheet can be mended");
         let mut spoilt = written.clone();

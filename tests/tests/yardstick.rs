@@ -5,12 +5,18 @@ use sheet_tests::damage::{alter_length, damaged, set_unused_of_data, set_unused_
 use sheet_tests::kinds::{sheet_in, KINDS};
 use sheet_tests::make::{accepted, burst_sizes};
 use sheet_tests::model::{self, Layout};
+use sheet_tests::plan::Plan;
 use sheet_tests::positions::random_position;
 use sheet_tests::puts::{every_small_answer, near_misses, random_answer, spoilt_answer};
 use sheet_tests::rng::Rng;
 use sheet_tests::runs::random_run;
 use sheet_tests::scans::{random_burst, random_data, random_sheet, turned};
+use sheet_tests::sparse::{far_refusals, late_refusals, tight};
 use sheet_tests::stacks::{bad_stacks, random_rooms, told_of, Lent};
+use sheet_tests::tables::{
+    from_another, of_powers, of_two_polynomials, random, shifted, small_plan, with_entry_changed,
+    without_inverse, zeros, Table,
+};
 use sheet_tests::tally::Tally;
 use sheet_tests::trials::small;
 use sheet_tests::yardstick;
@@ -44,6 +50,50 @@ fn yardsticks_agree() {
             }
         }
     }
+}
+
+/// The plan test for few cells, which knows a table of powers by its look: tables of powers and such as are
+/// nearly so, random ones, each for t of 1 and 2 and with one entry changed; tight ones; and refusals of
+/// full size.
+#[test]
+fn yardstick_of_few_cells_agrees() {
+    let mut rng = Rng::new(68);
+    let mut tally = Tally::default();
+    let mut compare = |plan: &Plan| {
+        let bytes = plan.encode();
+        let told = model::test_plan(&bytes).pack();
+        assert_eq!(yardstick::sparse_plan_test(&bytes), told, "{plan:?}");
+        assert_eq!(yardstick::plain_plan_test(&bytes), told, "{plan:?}");
+        tally.count(told);
+    };
+    let kinds: [Table; 7] =
+        [of_powers, random, without_inverse, from_another, zeros, of_two_polynomials, shifted];
+    for (b1, b2) in burst_sizes() {
+        for t in [1, 2] {
+            for (v, h) in kinds
+                .map(|v| (v, of_powers as Table))
+                .into_iter()
+                .chain(kinds.map(|h| (of_powers as Table, h)))
+            {
+                for _ in 0..12 {
+                    let plan = small_plan(&mut rng, [b1, b2, t], v, h);
+                    compare(&plan);
+                    let at = rng.below(plan.v.len() + plan.h.len());
+                    compare(&with_entry_changed(&plan, at, &mut rng));
+                }
+            }
+            if let Some(plan) = tight(&mut rng, [b1 + 5, b2 + 5, b1, b2], t) {
+                compare(&plan);
+                let at = rng.below(plan.v.len() + plan.h.len());
+                compare(&with_entry_changed(&plan, at, &mut rng));
+            }
+        }
+    }
+    for (plan, told) in far_refusals().into_iter().chain(late_refusals(2, &mut rng)) {
+        assert_eq!(yardstick::sparse_plan_test(&plan.encode()), told.pack());
+        compare(&plan);
+    }
+    tally.require("plain plan test, few cells", &[(0..=0, 1000), (8..=10, 1000)]);
 }
 
 /// So do the sums of runs, under good and damaged plans, with right and wrong buffers.

@@ -1,7 +1,8 @@
 -- The test of a plan gives 0 exactly where the plan is accepted, as document 01 words it.
 --
---   rows-hold, hold-rows        check 8 passes exactly where the condition on courses holds
---   columns-hold, hold-columns  check 9 passes exactly where the condition on needles holds
+--   rows-hold, sparse-rows-hold, hold-rows            check 8 passes exactly where the condition on courses holds
+--   columns-hold, sparse-columns-hold, hold-columns   check 9 passes exactly where the condition on needles holds
+--   all-hold                    the conditions, where these pass
 --   checks-hold, hold-checks    check 10 passes exactly where the condition on check cells holds
 --   accepted-plan               where the test gives 0, the plan is accepted
 --   plan-accepted               where the plan is accepted, the test gives 0 (and places 0, 0)
@@ -9,18 +10,22 @@
 --
 -- Assumes nothing.
 use mathlib.Core.Path.{_≡_, refl, sym, ap, _∙_}
-use mathlib.Core.Bool.{Bool}
+use mathlib.Core.Bool.{Bool, true, cond}
 use mathlib.Core.List.{List}
 use Prim.Native.Nat.{ℕ, suc, _+_, _-_, _*_, _≤_, _<_}
+use native.Mathlib.Decide.{ℕ-discrete}
 use native.Mathlib.Omega.{arith}
-use borrow.Author.Tests.{eq-eqb, eqb-true}
+use lib.Dec.{eqb}
+use borrow.Author.Tests.{eq-eqb, ne-eqb, eqb-true}
 use Rattle.finite.specs.Search.{least}
 use Rattle.finite.proofs.Search.{least-first, least-none}
 use Rattle.gf2.specs.Independence.{Independent, spanned}
+use Rattle.gf2.specs.Sparse.{Apart, IndependentUpTo}
 use Rattle.gf2.proofs.Independence.{free-independent, independent-free}
+use Rattle.gf2.proofs.Sparse.{apart-apart, so-apart, free-up-to, so-free}
 use Rattle.gf2.proofs.Vectors.{free-least}
 use Rattle.boxcode.specs.Code.{Code, Formed, checkJoint}
-use Rattle.boxcode.specs.Condition.{everyone, rowMember, columnMember, columnDifference, Conditions, rowPairFree, columnPairFree}
+use Rattle.boxcode.specs.Condition.{everyone, inWindow, rowMember, columnMember, columnDifference, Conditions, rowPairFree, columnPairFree}
 use Rattle.plan.specs.declared.verdict.Verdict.{Verdict}
 use Rattle.plan.specs.Verdict.{accepted, _orElse_}
 use Rattle.plan.specs.declared.header.Header.{Header}
@@ -41,32 +46,71 @@ pair-zero : (n : ℕ) (p : Pair) → pairVerdict (suc n) p .number ≡ 0 → p �
 pair-zero n (Failing i j) e = absurd (omega arith)
 pair-zero n Clear e = refl
 
+-- a test that depends on whether t is 0
+when-any : (t : ℕ) (a b : Bool) → t ≡ 0 → cond (eqb t 0) a b ≡ a
+when-any t a b e = ap (λ (x : Bool). cond x a b) (eq-eqb t 0 e)
+
+when-few : (t : ℕ) (a b : Bool) → 1 ≤ t → cond (eqb t 0) a b ≡ b
+when-few t a b l = ap (λ (x : Bool). cond x a b) (ne-eqb t 0 (λ e. omega arith))
+
 module _ (c : Code) (F : Formed c) where
-  pub rows-hold : rowsVerdict c .number ≡ 0 → (i i' : ℕ) → i ≤ i' → i' + c .b1 ≤ c .n1 → Independent (c .n1 * c .b2) (rowMember c i i') (c .rowEntry)
-  unfolding rowsVerdict rowPairFree
-  rows-hold e i i' l u =
-      free-independent (c .n1 * c .b2) (rowMember c i i') (c .rowEntry)
-      (clear-all (rowPairFree c) (λ k. k) (c .n1 - c .b1 + 1) (pair-zero 7 _ e) i i' (omega arith) l (omega arith))
+  rows-clear : rowsVerdict c .number ≡ 0 → (i i' : ℕ) → i ≤ i' → i' + c .b1 ≤ c .n1 → rowPairFree c i i' ≡ true
+  unfolding rowsVerdict
+  rows-clear e i i' l u = clear-all (rowPairFree c) (λ k. k) (c .n1 - c .b1 + 1) (pair-zero 7 _ e) i i' (omega arith) l (omega arith)
 
-  pub hold-rows : ((i i' : ℕ) → i ≤ i' → i' + c .b1 ≤ c .n1 → Independent (c .n1 * c .b2) (rowMember c i i') (c .rowEntry)) → rowsVerdict c ≡ accepted
-  unfolding rowsVerdict rowPairFree
-  hold-rows h =
-      ap (pairVerdict 8) (all-clear (rowPairFree c) (λ k. k) (c .n1 - c .b1 + 1)
-      (λ i i' _ l u. independent-free (c .n1 * c .b2) (rowMember c i i') (c .rowEntry) (h i i' l (omega (arith, F .n1-least)))))
+  columns-clear : columnsVerdict c .number ≡ 0 → (a a' : ℕ) → a < a' → a' + c .b2 ≤ c .n2 → columnPairFree c a a' ≡ true
+  unfolding columnsVerdict
+  columns-clear e a a' l u =
+      clear-all (columnPairFree c) (λ k. k + 1) (c .n2 - c .b2 + 1) (pair-zero 8 _ e) a a' (omega arith) (omega arith) (omega arith)
 
-  pub columns-hold : columnsVerdict c .number ≡ 0 → (a a' : ℕ) → a < a' → a' + c .b2 ≤ c .n2
+  rows-hold : rowsVerdict c .number ≡ 0 → c .t ≡ 0 → (i i' : ℕ) → i ≤ i' → i' + c .b1 ≤ c .n1
+      → Independent (c .n1 * c .b2) (rowMember c i i') (c .rowEntry)
+  unfolding rowPairFree
+  rows-hold e z i i' l u =
+      free-independent (c .n1 * c .b2) (rowMember c i i') (c .rowEntry) (sym (when-any (c .t) _ _ z) ∙ rows-clear e i i' l u)
+
+  columns-hold : columnsVerdict c .number ≡ 0 → c .t ≡ 0 → (a a' : ℕ) → a < a' → a' + c .b2 ≤ c .n2
       → Independent (c .b2 * c .b1) (columnMember c a a') (columnDifference c a a')
-  unfolding columnsVerdict columnPairFree
-  columns-hold e a a' l u =
-      free-independent (c .b2 * c .b1) (columnMember c a a') (columnDifference c a a')
-      (clear-all (columnPairFree c) (λ k. k + 1) (c .n2 - c .b2 + 1) (pair-zero 8 _ e) a a' (omega arith) (omega arith) (omega arith))
+  unfolding columnPairFree
+  columns-hold e z a a' l u =
+      free-independent (c .b2 * c .b1) (columnMember c a a') (columnDifference c a a') (sym (when-any (c .t) _ _ z) ∙ columns-clear e a a' l u)
 
-  pub hold-columns : ((a a' : ℕ) → a < a' → a' + c .b2 ≤ c .n2 → Independent (c .b2 * c .b1) (columnMember c a a') (columnDifference c a a'))
-      → columnsVerdict c ≡ accepted
+  sparse-rows-hold : rowsVerdict c .number ≡ 0 → 1 ≤ c .t → (i i' : ℕ) → i ≤ i' → i' + c .b1 ≤ c .n1
+      → Apart (c .t) (c .n1 * c .b2) (inWindow c i) (inWindow c i') (c .rowEntry)
+  unfolding rowPairFree
+  sparse-rows-hold e z i i' l u =
+      apart-apart (c .t) (c .n1 * c .b2) (inWindow c i) (inWindow c i') (c .rowEntry) (sym (when-few (c .t) _ _ z) ∙ rows-clear e i i' l u)
+
+  sparse-columns-hold : columnsVerdict c .number ≡ 0 → 1 ≤ c .t → (a a' : ℕ) → a < a' → a' + c .b2 ≤ c .n2
+      → IndependentUpTo (c .t) (c .b2 * c .b1) (columnMember c a a') (columnDifference c a a')
+  unfolding columnPairFree
+  sparse-columns-hold e z a a' l u =
+      free-up-to (c .t) (c .b2 * c .b1) (columnMember c a a') (columnDifference c a a') (sym (when-few (c .t) _ _ z) ∙ columns-clear e a a' l u)
+
+  pub hold-rows : Conditions c → rowsVerdict c ≡ accepted
+  unfolding rowsVerdict rowPairFree
+  hold-rows K =
+      ap (pairVerdict 8)
+      (all-clear (rowPairFree c) (λ k. k) (c .n1 - c .b1 + 1) (λ i i' _ l u. go (ℕ-discrete (c .t) 0) i i' l (omega (arith, F .n1-least))))
+    where
+      go : Dec (c .t ≡ 0) → (i i' : ℕ) → i ≤ i' → i' + c .b1 ≤ c .n1 → rowPairFree c i i' ≡ true
+      go (yes z) i i' l u = when-any (c .t) _ _ z ∙ independent-free (c .n1 * c .b2) (rowMember c i i') (c .rowEntry) (K .rows z i i' l u)
+      go (no z) i i' l u =
+          when-few (c .t) _ _ (omega arith)
+          ∙ so-apart (c .t) (c .n1 * c .b2) (inWindow c i) (inWindow c i') (c .rowEntry) (K .sparse-rows (omega arith) i i' l u)
+
+  pub hold-columns : Conditions c → columnsVerdict c ≡ accepted
   unfolding columnsVerdict columnPairFree
-  hold-columns h =
-      ap (pairVerdict 9) (all-clear (columnPairFree c) (λ k. k + 1) (c .n2 - c .b2 + 1)
-      (λ a a' _ l u. independent-free (c .b2 * c .b1) (columnMember c a a') (columnDifference c a a') (h a a' (omega arith) (omega (arith, F .n2-least)))))
+  hold-columns K =
+      ap (pairVerdict 9)
+      (all-clear (columnPairFree c) (λ k. k + 1) (c .n2 - c .b2 + 1)
+      (λ a a' _ l u. go (ℕ-discrete (c .t) 0) a a' (omega arith) (omega (arith, F .n2-least))))
+    where
+      go : Dec (c .t ≡ 0) → (a a' : ℕ) → a < a' → a' + c .b2 ≤ c .n2 → columnPairFree c a a' ≡ true
+      go (yes z) a a' l u = when-any (c .t) _ _ z ∙ independent-free (c .b2 * c .b1) (columnMember c a a') (columnDifference c a a') (K .columns z a a' l u)
+      go (no z) a a' l u =
+          when-few (c .t) _ _ (omega arith)
+          ∙ so-free (c .t) (c .b2 * c .b1) (columnMember c a a') (columnDifference c a a') (K .sparse-columns (omega arith) a a' l u)
 
   pub checks-hold : checksVerdict c .number ≡ 0 → Independent (c .rv + c .rh) everyone (checkJoint c)
   unfolding checksVerdict
@@ -83,18 +127,27 @@ module _ (c : Code) (F : Formed c) where
       eqb-true _ _ (sym (free-least (c .rv + c .rh) (checkJoint c)) ∙ independent-free (c .rv + c .rh) everyone (checkJoint c) h) in
       zero-at (c .rv + c .rh) p _ (λ k l. least-first (c .rv + c .rh) p k (omega arith))
 
+  pub all-hold : rowsVerdict c .number ≡ 0 → columnsVerdict c .number ≡ 0 → Independent (c .rv + c .rh) everyone (checkJoint c) → Conditions c
+  all-hold r s checks = record {
+    rows = rows-hold r;
+    columns = columns-hold s;
+    sparse-rows = sparse-rows-hold r;
+    sparse-columns = sparse-columns-hold s;
+    checks = checks;
+  }
+
   pub conditions-hold : conditionsVerdict c .number ≡ 0 → Conditions c
   unfolding conditionsVerdict
   conditions-hold e =
       let r = else-zero (rowsVerdict c) (columnsVerdict c orElse checksVerdict c) e in
       let s = else-zero (columnsVerdict c) (checksVerdict c) (r .1) in
-      record { rows = rows-hold (r .0); columns = columns-hold (s .0); checks = checks-hold (s .1) }
+      all-hold (r .0) (s .0) (checks-hold (s .1))
 
   pub hold-conditions : Conditions c → conditionsVerdict c ≡ accepted
   unfolding conditionsVerdict
   hold-conditions h =
-      else-second (rowsVerdict c) _ (ap (λ (v : Verdict). v .number) (hold-rows (h .rows)))
-      ∙ else-second (columnsVerdict c) _ (ap (λ (v : Verdict). v .number) (hold-columns (h .columns))) ∙ hold-checks (h .checks)
+      else-second (rowsVerdict c) _ (ap (λ (v : Verdict). v .number) (hold-rows h))
+      ∙ else-second (columnsVerdict c) _ (ap (λ (v : Verdict). v .number) (hold-columns h)) ∙ hold-checks (h .checks)
 
 pub accepted-plan : (s : List ℕ) → planVerdict s .number ≡ 0 → Accepted s
 unfolding planVerdict

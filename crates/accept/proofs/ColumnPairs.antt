@@ -3,7 +3,7 @@
 --   same-column      the column of the first strip that has the remainder of a column
 --   member-is        a member stands on a column after the first strip
 --   difference-is    and is the entry of that column, reduced by the first strip
---   column-pair      the pair test on the entries is the pair test of the code
+--   column-free      the members are independent exactly if the entries of the pair are
 --
 -- Assumes nothing.
 use mathlib.Core.Path.{_≡_, refl, sym, ap, ap₂, _∙_}
@@ -19,13 +19,14 @@ use lib.Dec.{eqb, leb}
 use Rattle.finite.specs.Search.{place}
 use Rattle.finite.proofs.Digits.{place-from, place-to, place-mod, place-unique}
 use Rattle.gf2.specs.Xor.{_⊕_}
+use Rattle.gf2.specs.Independence.{free}
 use Rattle.gf2.specs.Vectors.{freeFrom, listed}
 use Rattle.gf2.proofs.Xor.{xor-comm}
 use Rattle.gf2.proofs.Vectors.{listed-equal, free-listed}
 use Rattle.gf2.proofs.Runs.{listed-add, listed-from}
 use Rattle.gf2.proofs.Order.{free-turn}
 use Rattle.boxcode.specs.Code.{Code}
-use Rattle.boxcode.specs.Condition.{stripEntry, columnMember, columnDifference, columnPairFree}
+use Rattle.boxcode.specs.Condition.{stripEntry, columnMember, columnDifference}
 use Rattle.plan.specs.declared.table.Table.the-variants.{Columns}
 use Rattle.accept.specs.Windows.{reduction, restRun, pairList, pairFree, windowsFree}
 
@@ -171,9 +172,10 @@ module _ (c : Code) (p1 : 0 < c .b1) (p2 : 0 < c .b2) (a b : ℕ) (l : a < b) wh
       after : (d : ℕ) → d < n → b + d ≡ place (c .b2) b (t + d)
       after d ld = sym (place-after (c .b2) b (t + d) (omega arith) (omega arith) ∙ omega (arith, et, en))
 
-  pub column-pair : columnPairFree c a b ≡ windowsFree Columns (c .columnEntry) (c .b1) (c .b2 * c .b1) a b
-  unfolding columnPairFree pairFree pairList
-  column-pair =
+  pub column-free : free (c .b2 * c .b1) (columnMember c a b) (columnDifference c a b)
+      ≡ windowsFree Columns (c .columnEntry) (c .b1) (c .b2 * c .b1) a b
+  unfolding pairFree pairList
+  column-free =
       let t = b % c .b2 in
       let n = c .b2 - t in
       let m = mod-lt b p2 in

@@ -3,6 +3,9 @@ pub mod Pairing
 pub mod Shift
 pub mod RowPairs
 pub mod ColumnPairs
+pub mod SparseColumns
+pub mod SparseShift
+pub mod SparseRows
 pub mod Remains
 pub mod Tables
 pub mod JointEntries

@@ -4,6 +4,8 @@
 --   rows-next, rows-end            at row i, and past the last
 --   clear-all                      the search is clear exactly where every pair is free (all-clear)
 --   row-equal, pairs-equal         equal tests have the same answer
+--   row-steps                      so have tests that are equal at each pair before which all in the row are free
+--   row-then, row-told             what comes after a row that is clear, and after one that is not
 --   first-row                      where each pair is as the one with the first start that is as far apart, one row is enough
 --
 -- Assumes nothing.
@@ -46,6 +48,20 @@ unfolding inRow
 row-equal ok ok' i zero j rest h = refl
 row-equal ok ok' i (suc m) j rest h =
     rw (h j (omega arith) (omega arith), row-equal ok ok' i m (suc j) rest (λ k l u. h k (omega arith) (omega arith)))
+
+pub row-steps :
+    (ok new : ℕ → ℕ → Bool) (i m j : ℕ) (rest : Pair) → (0 < m → ok i j ≡ new i j)
+    → ((k : ℕ) → j ≤ k → suc k < j + m → ok i k ≡ true → ok i (suc k) ≡ new i (suc k)) → inRow ok i j m rest ≡ inRow new i j m rest
+unfolding inRow
+row-steps ok new i zero j rest e h = refl
+row-steps ok new i (suc m) j rest e h = rw (← e (omega arith)) (go (ok i j) refl (row-steps ok new i m (suc j) rest))
+  where
+    go : (t : Bool) → ok i j ≡ t
+        → ((0 < m → ok i (suc j) ≡ new i (suc j)) → ((k : ℕ) → suc j ≤ k → suc k < suc j + m → ok i k ≡ true → ok i (suc k) ≡ new i (suc k))
+        → inRow ok i (suc j) m rest ≡ inRow new i (suc j) m rest)
+        → cond t (inRow ok i (suc j) m rest) (Failing i j) ≡ cond t (inRow new i (suc j) m rest) (Failing i j)
+    go true q ih = ih (λ l. h j (omega arith) (omega arith) q) (λ k l u. h k (omega arith) (omega arith))
+    go false q ih = refl
 
 rows-equal :
     (ok ok' : ℕ → ℕ → Bool) (start : ℕ → ℕ) (n m i : ℕ)
@@ -133,6 +149,27 @@ row-rest ok i (suc m) j rest h = go (ok i j) h (row-rest ok i m (suc j) rest)
         → cond t (inRow ok i (suc j) m rest) (Failing i j) ≡ cond t (inRow ok i (suc j) m Clear) (Failing i j)
     go true h ih = ih h
     go false h ih = refl
+
+pub row-then : (ok : ℕ → ℕ → Bool) (i m j : ℕ) (rest : Pair) → inRow ok i j m Clear ≡ Clear → inRow ok i j m rest ≡ rest
+unfolding inRow
+row-then ok i zero j rest e = refl
+row-then ok i (suc m) j rest e = go (ok i j) e (row-then ok i m (suc j) rest)
+  where
+    go : (t : Bool) → cond t (inRow ok i (suc j) m Clear) (Failing i j) ≡ Clear → (inRow ok i (suc j) m Clear ≡ Clear → inRow ok i (suc j) m rest ≡ rest)
+        → cond t (inRow ok i (suc j) m rest) (Failing i j) ≡ rest
+    go true e ih = ih e
+    go false e ih = let w : _≡_ {A = ℕ} 0 1 = cc in absurd (omega arith)
+
+pub row-told : (ok : ℕ → ℕ → Bool) (i m j : ℕ) (rest : Pair) (a b : ℕ) → inRow ok i j m Clear ≡ Failing a b → inRow ok i j m rest ≡ Failing a b
+unfolding inRow
+row-told ok i zero j rest a b e = let w : _≡_ {A = ℕ} 0 1 = cc in absurd (omega arith)
+row-told ok i (suc m) j rest a b e = go (ok i j) e (row-told ok i m (suc j) rest a b)
+  where
+    go : (t : Bool) → cond t (inRow ok i (suc j) m Clear) (Failing i j) ≡ Failing a b
+        → (inRow ok i (suc j) m Clear ≡ Failing a b → inRow ok i (suc j) m rest ≡ Failing a b)
+        → cond t (inRow ok i (suc j) m rest) (Failing i j) ≡ Failing a b
+    go true e ih = ih e
+    go false e ih = e
 
 pub first-row :
     (ok : ℕ → ℕ → Bool) (start : ℕ → ℕ) (n : ℕ) → 1 ≤ n

@@ -22,7 +22,7 @@ use Rattle.plan.specs.declared.header.Header.{Header}
 use Rattle.plan.specs.Verdict.{accepted, refusal, verdictIf, _orElse_}
 use Rattle.plan.specs.Header.{headerLength, headerOf}
 use Rattle.plan.specs.Bytes.{codeOf}
-use Rattle.plan.specs.Form.{badBurst, badSheet, badWidths, badOffsets, sizesVerdict, offsetsVerdict, fieldsVerdict, headerVerdict, verdictAt}
+use Rattle.plan.specs.Form.{badBurst, badSheet, badWidths, badCells, badOffsets, sizesVerdict, offsetsVerdict, fieldsVerdict, headerVerdict, verdictAt}
 use Rattle.plan.specs.Form.{firstLarge, entriesVerdict, badPair, listVerdict, formVerdict}
 use Rattle.plan.proofs.Framing.{framed}
 use Rattle.plan.proofs.Forming.{formed}
@@ -97,15 +97,20 @@ refusal-fits n l = record { number-fits = l; p-fits = omega arith; q-fits = omeg
 pub sizes-fits : (h : Header) → SmallVerdict (sizesVerdict h)
 unfolding sizesVerdict
 sizes-fits h =
-    else-fits (verdictIf (badBurst h) (refusal 2 0 0)) (third orElse fourth) (if-fits (badBurst h) (refusal 2 0 0) (λ _. refusal-fits 2 (omega arith)))
-    (λ _. else-fits third fourth (if-fits (badSheet h) (refusal 3 0 0) (λ _. refusal-fits 3 (omega arith)))
-    (λ _. if-fits (badWidths h) (refusal 4 0 0) (λ _. refusal-fits 4 (omega arith))))
+    else-fits (verdictIf (badBurst h) (refusal 2 0 0)) (third orElse fourth orElse fifth)
+    (if-fits (badBurst h) (refusal 2 0 0) (λ _. refusal-fits 2 (omega arith)))
+    (λ _. else-fits third (fourth orElse fifth) (if-fits (badSheet h) (refusal 3 0 0) (λ _. refusal-fits 3 (omega arith)))
+    (λ _. else-fits fourth fifth (if-fits (badWidths h) (refusal 4 0 0) (λ _. refusal-fits 4 (omega arith)))
+    (λ _. if-fits (badCells h) (refusal 23 0 0) (λ _. refusal-fits 23 (omega arith)))))
   where
     third : Verdict
     third = verdictIf (badSheet h) (refusal 3 0 0)
 
     fourth : Verdict
     fourth = verdictIf (badWidths h) (refusal 4 0 0)
+
+    fifth : Verdict
+    fifth = verdictIf (badCells h) (refusal 23 0 0)
 
 pub fields-fits : (size : ℕ) (h : Header) → SmallVerdict (fieldsVerdict size h)
 unfolding fieldsVerdict offsetsVerdict

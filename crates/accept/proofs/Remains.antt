@@ -5,7 +5,8 @@
 --   prepared-rows           the words after a window, as the window's basis leaves them, tell of each pair
 --   prepared-columns        so do those after a strip, reduced by the strip
 --   left, row-left          one row of pairs, by what the first window leaves
---   cycle-next              the place in the first window of the next entry
+--   block-start, block-next a block of words, one more after the other
+--   filled-block, cycle-home   what a block fills, and where the next begins
 --   kept-most               no more are kept than there are
 --   rest-free               a part is free where all of it is counted
 --
@@ -14,13 +15,14 @@ use mathlib.Core.Path.{_≡_, refl, sym, ap, ap₂, _∙_}
 use mathlib.Core.Bool.{Bool, _&&_}
 use mathlib.Core.List.{List, [], _++_, map}
 use Prim.Native.Nat.{ℕ, _+_, _-_, _*_, _%_, _≤_, _<_, max}
-use native.Mathlib.Nat.{mod-add-mod, zero-mul}
-use native.Mathlib.Decide.{ℕ-discrete}
+use native.Mathlib.Nat.{mod-add-mod, mod-eq-of-lt, mod-self, zero-add, zero-mul}
+use native.Mathlib.Decide.{ℕ-discrete, decLt}
 use native.Mathlib.Omega.{arith}
 use borrow.Author.Tests.{eq-eqb}
 use lib.Dec.{eqb}
 use lib.ListN.{length, getD, take, set, length-set}
 use lib.Seq.{getD-set-same, getD-set-other}
+use Rattle.gf2.specs.Xor.{_⊕_}
 use Rattle.gf2.specs.Vectors.{takenFrom, freeFrom, run, part}
 use Rattle.gf2.specs.Swept.{swept, KeptOf}
 use Rattle.gf2.specs.declared.Kept.{Kept}
@@ -33,7 +35,7 @@ use Rattle.accept.specs.declared.pairs.Pair.{Pair}
 use Rattle.accept.specs.declared.pairs.Pair.the-variants.{Clear}
 use Rattle.accept.specs.Pairs.{inRow}
 use Rattle.plan.specs.Table.{wordAt}
-use Rattle.accept.specs.Windows.{reduction, restRun, pairList, pairFree, windowsFree, startOf, Windows, Prepared}
+use Rattle.accept.specs.Windows.{reduction, restRun, pairList, pairFree, windowsFree, startOf, Windows, Block, Prepared, Reduced}
 use Rattle.accept.proofs.Pairing.{row-equal}
 use Rattle.accept.proofs.Shift.{window-in}
 
@@ -87,15 +89,14 @@ module _ (words : List ℕ) (size a : ℕ) (inside : a + size ≤ length words) 
           ∙ ap₂ (λ (n : ℕ) (s : List ℕ). eqb (base .taken) n && freeFrom [] s) own-size
           (mapped b ∙ rest-part (λ k. g (wordAt words k)) size a b rest l u f)
 
-  pub prepared-columns : Filled (reduction (wordAt words) a size) (a + size) (length words) (length words) rest
-      → Prepared Columns words size a size rest
-  unfolding pairFree pairList
-  prepared-columns f = record {
-    long = f .size;
-    free = λ b l u.
-        ap (freeFrom []) (rest-part (reduction (wordAt words) a size) size a b rest l u f)
-        ∙ ap (λ (t : Bool). t && freeFrom [] (part (max (a + size) b) (b + size) rest)) (sym (eq-eqb size size refl));
-  }
+pub prepared-columns : {words rest : List ℕ} {size a r : ℕ} → (r ≡ size) × Reduced words size a rest → Prepared Columns words size a r rest
+unfolding pairFree pairList
+prepared-columns {words} {rest} {size} {a} (e, q) = rw e (record {
+  long = q .long;
+  free = λ b l u.
+      ap (freeFrom []) (rest-part (reduction (wordAt words) a size) size a b rest l u (record { size = q .long; value = q .value }))
+      ∙ ap (λ (t : Bool). t && freeFrom [] (part (max (a + size) b) (b + size) rest)) (sym (eq-eqb size size refl));
+})
 
 -- what the first window leaves of the window that begins at j × step is free
 abbrev pub left : ℕ → List ℕ → ℕ → ℕ → ℕ → ℕ → Bool
@@ -114,9 +115,49 @@ row-left t words {rest} {step} {size} {count} {taken} w p {s} e f =
     pair k l = ap (λ (a : ℕ). pairFree t (wordAt words) size a (k * step)) (zero-mul step) ∙ p .free (k * step) (omega arith) (window-in w k l)
 
 -- the place in the first window of the next entry
-pub cycle-next : (a size k at : ℕ) → a ≤ k → at ≡ (k - a) % size → (at + 1) % size ≡ (k + 1 - a) % size
-cycle-next a size k at l e =
-    ap (λ (n : ℕ). (n + 1) % size) e ∙ mod-add-mod (k - a) size 1 ∙ ap (λ (n : ℕ). n % size) (let z : k - a + 1 ≡ k + 1 - a = omega arith in z)
+-- one word more of a block
+pub block-start : (f : ℕ → ℕ) (a k : ℕ) (t : List ℕ) → Block f a k 0 t t
+block-start f a k t = record { long = refl; before = λ x l. refl; here = λ d l. absurd (omega arith) }
+
+pub block-next : {f : ℕ → ℕ} {a k n : ℕ} {old t : List ℕ} → Block f a k n old t → k + n < length old → (v : ℕ) → v ≡ f (k + n) ⊕ f (a + n)
+    → Block f a k (n + 1) old (set t (k + n) v)
+block-next {f} {a} {k} {n} {old} {t} b l v e = record {
+  long = length-set t (k + n) v ∙ b .long;
+  before = λ x u. getD-set-other t (k + n) x v 0 (λ q. omega arith) ∙ b .before x u;
+  here = λ d u. go d u (ℕ-discrete d n);
+}
+  where
+    go : (d : ℕ) → d < n + 1 → Dec (d ≡ n) → getD (set t (k + n) v) (k + d) 0 ≡ f (k + d) ⊕ f (a + d)
+    go d u (yes q) = rw q (getD-set-same t (k + n) v 0 (omega (arith, b .long)) ∙ e)
+    go d u (no q) = getD-set-other t (k + n) (k + d) v 0 (λ z. q (omega arith)) ∙ b .here d (omega arith)
+
+-- a block that begins where the strip's first remainder does; so does the next, if the block is as long as the strip
+module _ (f : ℕ → ℕ) (a size k n : ℕ) (few : n ≤ size) (after : a + size ≤ k) (home : (k - a) % size ≡ 0) where
+  cycle-at : (d : ℕ) → d < size → (k + d - a) % size ≡ d
+  cycle-at d l =
+      let z : k + d - a ≡ k - a + d = omega arith in
+      ap (λ (x : ℕ). x % size) z ∙ sym (mod-add-mod (k - a) size d) ∙ ap (λ (x : ℕ). (x + d) % size) home
+      ∙ ap (λ (x : ℕ). x % size) (zero-add d) ∙ mod-eq-of-lt l
+
+  pub filled-block : {len : ℕ} {t t' : List ℕ} → Filled (reduction f a size) (a + size) k len t → Block f a k n t t'
+      → Filled (reduction f a size) (a + size) (k + n) len t'
+  unfolding reduction
+  filled-block {len} {t} {t'} F b = record { size = b .long ∙ F .size; value = λ x l u. go x l u (decLt x k) }
+    where
+      go : (x : ℕ) → a + size ≤ x → x < k + n → Dec (x < k) → getD t' x 0 ≡ f x ⊕ f (a + (x - a) % size)
+      go x l u (yes q) = b .before x q ∙ F .value x l q
+      go x l u (no q) =
+          let d = x - k in
+          let z : k + d ≡ x = omega arith in
+          let m : (x - a) % size ≡ d = ap (λ (y : ℕ). (y - a) % size) (sym z) ∙ cycle-at d (omega arith) in
+          ap (λ (y : ℕ). getD t' y 0) (sym z) ∙ b .here d (omega arith)
+          ∙ ap₂ (λ (y e : ℕ). f y ⊕ f (a + e)) z (sym m)
+
+  pub cycle-home : n ≡ size → (k + n - a) % size ≡ 0
+  cycle-home e =
+      let z : k + n - a ≡ k - a + size = omega arith in
+      ap (λ (x : ℕ). x % size) z ∙ sym (mod-add-mod (k - a) size size) ∙ ap (λ (x : ℕ). (x + size) % size) home
+      ∙ ap (λ (x : ℕ). x % size) (zero-add size) ∙ mod-self size
 
 -- no more are kept than there are
 pub kept-most : {ms : List ℕ} {r : Kept} → KeptOf ms r → r .taken ≤ length ms

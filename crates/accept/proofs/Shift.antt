@@ -3,7 +3,7 @@
 --
 --   list-next        the numbers of the pair one entry on
 --   windows-shift    so only how far apart two windows are counts
---   start-from, start-to, window-in, windows-inside   where windows and pairs begin
+--   start-from, start-to, start-apart, window-in, windows-inside   where windows and pairs begin
 --   powers-row       so one row of pairs is enough
 --
 -- Assumes nothing.
@@ -45,7 +45,7 @@ module _ (p : ℕ) (odd : p % 2 ≡ 1) (f : ℕ → ℕ) (n : ℕ) (steps : (k :
       (λ k u. ap g′ (let z : suc m + k ≡ suc (m + k) = omega arith in z) ∙ h (m + k) (omega arith) (omega arith)))
 
   -- the entry of the first window that has the same remainder is one on as well
-  reduction-next : (size a k : ℕ) → 1 ≤ size → a + size ≤ k → suc k < n → reduction f (suc a) size (suc k) ≡ timesZ p (reduction f a size k)
+  pub reduction-next : (size a k : ℕ) → 1 ≤ size → a + size ≤ k → suc k < n → reduction f (suc a) size (suc k) ≡ timesZ p (reduction f a size k)
   unfolding reduction
   reduction-next size a k s l u =
       let r = mod-lt (k - a) {m = size} (omega arith) in
@@ -93,6 +93,10 @@ pub start-to : (t : Table) (i : ℕ) → startOf t i ≤ i + 1
 start-to Rows i = omega arith
 start-to Columns i = omega arith
 
+pub start-apart : (t : Table) (i j : ℕ) → startOf t i ≤ j → startOf t 0 ≤ j - i
+start-apart Rows i j l = omega arith
+start-apart Columns i j l = omega arith
+
 -- window j lies in the table
 pub window-in : {n step size count : ℕ} → Windows n step size count → (j : ℕ) → j < count → j * step + size ≤ n
 window-in {n} {step} {size} {count} w j l = omega (arith, w .inside, mul-le-mul-right step l, suc-mul j step)
@@ -105,12 +109,8 @@ pub powers-row : (t : Table) (words : List ℕ) (step size count : ℕ) → Wind
     ≡ inRow (windowsFree t (wordAt words) step size) 0 (startOf t 0) (count - startOf t 0) Clear
 powers-row t words step size count w e =
     first-row (windowsFree t (wordAt words) step size) (startOf t) count (w .some)
-    (λ i j _ l u. (from t i j l, shifted i j (let b = start-from t i in omega arith) u))
+    (λ i j _ l u. (start-apart t i j l, shifted i j (let b = start-from t i in omega arith) u))
   where
-    from : (t : Table) (i j : ℕ) → startOf t i ≤ j → startOf t 0 ≤ j - i
-    from Rows i j l = omega arith
-    from Columns i j l = omega arith
-
     shifted : (i j : ℕ) → i ≤ j → j < count → windowsFree t (wordAt words) step size i j ≡ windowsFree t (wordAt words) step size 0 (j - i)
     shifted i j l u =
         let s = powers-stepped words e in

@@ -3,20 +3,26 @@
 --   taken-small       the words of a table are small
 --   table-windows     all windows of a table lie in it
 --   pair-equal, windows-equal   equal entries have the same pairs, and the same first pair that fails
+--   pass-any, pass-few   the test of two windows, where t is 0 and where it is not
 --   table-condition   where a table has the entries of a code, the check of its pairs is the code's
 --   plan-condition    the same of a plan's table, unpacked
 --
 -- Assumes nothing.
 use mathlib.Core.Path.{_≡_, sym, ap, ap₂, _∙_}
+use mathlib.Core.Bool.{Bool, cond}
 use mathlib.Core.List.{List, [], _++_}
 use Prim.Native.Nat.{ℕ, suc, _+_, _-_, _*_, _%_, _≤_, _<_, max}
 use native.Mathlib.Nat.{mod-lt, add-mul, suc-mul, mul-le-mul-right, mul-comm}
 use native.Mathlib.Omega.{arith}
+use lib.Dec.{eqb}
+use borrow.Author.Tests.{eq-eqb, ne-eqb}
 use lib.ListN.{length, take}
 use lib.Seq.{length-take-le, getD-take}
 use Rattle.gf2.specs.Xor.{_⊕_}
 use Rattle.gf2.specs.Vectors.{freeFrom}
 use Rattle.gf2.specs.Powers.{Digits32}
+use Rattle.finite.specs.Search.{within}
+use Rattle.gf2.proofs.Sparse.{apart-equal, free-equal}
 use Rattle.gf2.proofs.Runs.{run-equal}
 use Rattle.boxcode.specs.Condition.{rowPairFree, columnPairFree}
 use Rattle.plan.specs.declared.header.Header.{Header}
@@ -27,12 +33,12 @@ use Rattle.plan.specs.Bytes.{rowEntryAt, columnEntryAt, checkRowAt, checkColumn
 use Rattle.plan.specs.Table.{entriesOf, wordAt, EntriesIn}
 use Rattle.accept.specs.Pairs.{firstFailing, pairVerdict}
 use Rattle.accept.specs.Verdict.{rowsVerdict, columnsVerdict}
-use Rattle.accept.specs.Windows.{reduction, restRun, pairList, pairFree, windowsFree, startOf, Windows, Entries32}
-use Rattle.accept.specs.Windows.{stepOf, windowSize, windowsOf, tableOf, tableVerdict, conditionOf}
+use Rattle.accept.specs.Windows.{reduction, restRun, pairList, pairFree, windowsFree, sparseFree, fewFree, startOf, Windows, Entries32}
+use Rattle.accept.specs.Windows.{stepOf, windowSize, windowsOf, tablePass, windowsPass, tableOf, tableVerdict, conditionOf}
 use Rattle.accept.proofs.Pairing.{pairs-equal}
 use Rattle.accept.proofs.Shift.{start-from, window-in}
 use Rattle.accept.proofs.RowPairs.{row-pair}
-use Rattle.accept.proofs.ColumnPairs.{column-pair}
+use Rattle.accept.proofs.SparseColumns.{column-pair}
 
 pub taken-small : (n : ℕ) (words : List ℕ) → n ≤ length words → Entries32 n words → Digits32 (take n words)
 taken-small n words room small k l =
@@ -81,28 +87,50 @@ module _ (f g : ℕ → ℕ) (n : ℕ) (same : (k : ℕ) → k < n → f k ≡ g
           unfold reduction in
           ap₂ _⊕_ (same k (omega arith)) (same (a + (k - a) % size) (let m = mod-lt (k - a) {m = size} (omega arith) in omega arith))
 
-  pub windows-equal : (t : Table) (step size count : ℕ) → Windows n step size count
-      → firstFailing (windowsFree t f step size) (startOf t) count ≡ firstFailing (windowsFree t g step size) (startOf t) count
-  windows-equal t step size count w =
-      pairs-equal (windowsFree t f step size) (windowsFree t g step size) (startOf t) count
-      (λ i j _ l u. let m : i ≤ j = (let b = start-from t i in omega arith) in
-      pair-equal t size (i * step) (j * step) (w .size-pos) (mul-le-mul-right step m) (window-in w j u))
+  sparse-equal : (t : Table) (most size a b : ℕ) → 1 ≤ size → a + size ≤ n → sparseFree t f most n size a b ≡ sparseFree t g most n size a b
+  unfolding sparseFree
+  sparse-equal Rows most size a b s u = apart-equal most n (within a size) (within b size) f g same
+  sparse-equal Columns most size a b s u =
+      free-equal most n (within (max (a + size) b) (b + size - max (a + size) b)) (reduction f a size) (reduction g a size)
+      (λ k l. unfold reduction in
+      ap₂ _⊕_ (same k l) (same (a + (k - a) % size) (let m = mod-lt (k - a) {m = size} (omega arith) in omega arith)))
+
+  pub windows-equal : (t : Table) (most step size count : ℕ) → Windows n step size count
+      → firstFailing (tablePass t f most n step size) (startOf t) count ≡ firstFailing (tablePass t g most n step size) (startOf t) count
+  unfolding tablePass
+  windows-equal t most step size count w =
+      pairs-equal (tablePass t f most n step size) (tablePass t g most n step size) (startOf t) count
+      (λ i j li l u.
+      let m : i ≤ j = (let b = start-from t i in omega arith) in
+      ap₂ (λ (x y : Bool). cond (eqb most 0) x y) (pair-equal t size (i * step) (j * step) (w .size-pos) (mul-le-mul-right step m) (window-in w j u))
+      (sparse-equal t most size (i * step) (j * step) (w .size-pos) (window-in w i li)))
+
+-- by what t is
+pub pass-any : (t : Table) (f : ℕ → ℕ) (most n step size : ℕ) → most ≡ 0 → tablePass t f most n step size ≡ windowsFree t f step size
+unfolding tablePass
+pass-any t f most n step size e =
+    λ x i j. ap (λ (b : Bool). cond b (windowsFree t f step size i j) (fewFree t f most n step size i j)) (eq-eqb most 0 e) x
+
+pub pass-few : (t : Table) (f : ℕ → ℕ) (most n step size : ℕ) → (most ≡ 0 → ⊥) → tablePass t f most n step size ≡ fewFree t f most n step size
+unfolding tablePass
+pass-few t f most n step size e =
+    λ x i j. ap (λ (b : Bool). cond b (windowsFree t f step size i j) (fewFree t f most n step size i j)) (ne-eqb most 0 e) x
 
 pub table-condition : (h : Header) → Small h → (t : Table) (v w row column f : ℕ → ℕ) → ((k : ℕ) → k < entriesOf h t → f k ≡ tableOf t v w k)
     → tableVerdict h t f ≡ conditionOf (codeFrom h v w row column) t
-unfolding tableVerdict rowsVerdict columnsVerdict
+unfolding tableVerdict windowsPass rowsVerdict columnsVerdict
 table-condition h p Rows v w row column f same =
     let c = codeFrom h v w row column in
     ap (pairVerdict 8)
-    (windows-equal f v (h .n1 * h .b2) same Rows _ _ _ (table-windows h p Rows)
-    ∙ pairs-equal (windowsFree Rows v (h .b2) (h .b1 * h .b2)) (rowPairFree c) (λ i. i) (h .n1 - h .b1 + 1)
-    (λ i j _ l u. sym (row-pair c (p .b2-pos) i j l (omega (arith, p .n1-least)))))
+    (windows-equal f v (h .n1 * h .b2) same Rows (h .t) _ _ _ (table-windows h p Rows)
+    ∙ pairs-equal (windowsPass h Rows v) (rowPairFree c) (λ i. i) (h .n1 - h .b1 + 1)
+    (λ i j _ l u. sym (row-pair h v w row column (p .b2-pos) i j l (omega (arith, p .n1-least)))))
 table-condition h p Columns v w row column f same =
     let c = codeFrom h v w row column in
     ap (pairVerdict 9)
-    (windows-equal f w (h .n2 * h .b1) same Columns _ _ _ (table-windows h p Columns)
-    ∙ pairs-equal (windowsFree Columns w (h .b1) (h .b2 * h .b1)) (columnPairFree c) (λ a. a + 1) (h .n2 - h .b2 + 1)
-    (λ i j _ l u. sym (column-pair c (p .b1-pos) (p .b2-pos) i j (omega arith))))
+    (windows-equal f w (h .n2 * h .b1) same Columns (h .t) _ _ _ (table-windows h p Columns)
+    ∙ pairs-equal (windowsPass h Columns w) (columnPairFree c) (λ a. a + 1) (h .n2 - h .b2 + 1)
+    (λ i j _ l u. sym (column-pair h v w row column (p .b1-pos) (p .b2-pos) i j (omega arith) (omega (arith, p .n2-least)))))
 
 pub plan-condition : (s : List ℕ) (h : Header) → Small h → (t : Table) (words : List ℕ) → EntriesIn s h t words
     → tableVerdict h t (wordAt words) ≡ conditionOf (codeWith s h) t

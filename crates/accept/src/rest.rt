@@ -6,13 +6,14 @@ ghost use Prim.Native.Nat.{_+_, _≤_, max};
 ghost use lib.Dec.{eqb};
 ghost use lib.ListN.{length};
 ghost use Rattle.gf2.specs.Vectors.{freeFrom, part};
-ghost use Rattle.plan.specs.declared.table.Table.the-variants.{Rows, Columns};
-ghost use Rattle.accept.specs.Windows.{WindowIn, Prepared};
+ghost use Rattle.plan.specs.declared.table.Table.the-variants.{Rows};
+ghost use Rattle.plan.specs.Table.{wordAt};
+ghost use Rattle.accept.specs.Windows.{WindowIn, Block, Prepared, Reduced};
 use gf2::empty_basis;
 use gf2::keep;
 use gf2::sweep;
 use layout::compare::larger;
-use layout::cycle::after;
+use layout::compare::smaller;
 use plan::table::Table;
 
 // Of the row table: how many words of the window its basis takes in, and the words after it as that basis leaves them.
@@ -31,17 +32,28 @@ fn sweep_rest(words: &[u64], first: usize, size: usize, rest: &mut [u64]) -> usi
     taken
 }
 
-// Of the column table: the words after the strip, each with the strip's word of the same remainder taken off. The strip itself asks nothing.
-fn differ_rest(words: &[u64], first: usize, size: usize, rest: &mut [u64]) -> usize
-    requires { ⌜ WindowIn (length (now words)) first size × (length (now rest) ≡ length (now words)) ⌝ }
-    ensures { λ r. ⌜ Prepared Columns (now (words .entry)) size first r (now (rest .exit)) ⌝ }
+// Of n words from k on each with the strip's word at the same place taken off.
+fn differ_block(words: &[u64], first: usize, k: usize, n: usize, rest: &mut [u64])
+    requires { ⌜ (first ≤ k) × (k + n ≤ length (now words)) × (length (now rest) ≡ length (now words)) ⌝ }
+    ensures { λ _. ⌜ Block (wordAt (now (words .entry))) first k n (now (rest .entry)) (now (rest .exit)) ⌝ }
 {
     let mut at = 0;
+    while at < n {
+        rest[k + at] = words[k + at] ^ words[first + at];
+        at += 1;
+    }
+}
+
+// Of the column table: the words after the strip, each with the strip's word of the same remainder taken off. The strip itself asks nothing.
+pub fn differ_rest(words: &[u64], first: usize, size: usize, rest: &mut [u64]) -> usize
+    requires { ⌜ WindowIn (length (now words)) first size × (length (now rest) ≡ length (now words)) ⌝ }
+    ensures { λ r. ⌜ (r ≡ size) × Reduced (now (words .entry)) size first (now (rest .exit)) ⌝ }
+{
     let mut k = first + size;
     while k < words.len() {
-        rest[k] = words[k] ^ words[first + at];
-        at = after(at, size);
-        k += 1;
+        let n = smaller(size, words.len() - k);
+        differ_block(words, first, k, n, rest);
+        k += n;
     }
     size
 }

@@ -14,8 +14,10 @@ use Rattle.gf2.specs.Xor.{_⊕_}
 use Rattle.gf2.proofs.Xor.{xor-cancel, xor-self}
 use Rattle.boxcode.specs.Code.{Code, Formed}
 use Rattle.boxcode.specs.Syndrome.{Cells, rowSyndrome, columnSyndrome, SameCells}
-use Rattle.boxcode.specs.Burst.{Burst, Fits}
+use Rattle.boxcode.specs.Burst.{Burst, Fits, cellCount}
 use Rattle.finite.proofs.Truth.{clash, same-truth}
+use Rattle.finite.proofs.Count.{most-few}
+use Rattle.boxcode.proofs.Cells.{cells-none}
 use Rattle.boxcode.proofs.Syndrome.{row-flip, column-flip}
 
 -- every cell of the set is on the sheet
@@ -55,6 +57,7 @@ module _ (c : Code) where
       column-from = λ i j t. clash t refl;
       column-to = λ i j t. clash t refl;
     };
+    sparse = most-few (c .t) (cellCount (c .n1) (c .n2) (λ i j. false)) (omega (arith, cells-none (c .n1) (c .n2) (λ i j. false) (λ i j li lj. refl)));
   }
 
   -- a burst fits a sheet exactly where the two have equal sums

@@ -1,10 +1,10 @@
 -- How few digits the entries of a code can have (document 02, request l), from the rules of form and the conditions:
 --
---   row-floor      rv is at least 2 × b1 × b2, where the sheet has two windows one below the other
+--   row-floor      rv is at least 2 × b1 × b2, where the sheet has two windows side by side
 --   column-floor   rh is at least b1 × b2, where it has two strips side by side
 --   checks-on      as many cells of the sheet are check cells as rv and rh say
 --
--- The positions of two windows one below the other are all different, and so are the columns of two strips side by side: each entry of the
+-- The positions of two windows side by side are all different, and so are the columns of two strips side by side: each entry of the
 -- one and each difference of the other is a member. They are independent, so they have as many digits at least (gf2, Dimension).
 --
 -- Assumes nothing.
@@ -27,7 +27,8 @@ use Rattle.boxcode.proofs.Image.{count-image}
 use Rattle.boxcode.proofs.Condition.{apart-member}
 use Rattle.boxcode.proofs.Check.{check-listed}
 
-module _ (c : Code) (F : Formed c) (K : Conditions c) where
+-- 02 m: "The figures of the check-cell list cover t = 0 alone"
+module _ (c : Code) (F : Formed c) (K : Conditions c) (any : c .t ≡ 0) where
   -- the windows at rows 0 and b1 hold the first 2 × b1 × b2 positions
   first-member : (k : ℕ) → k < 2 * c .b1 * c .b2 → rowMember c 0 (c .b1) k ≡ true
   unfolding rowMember
@@ -46,7 +47,7 @@ module _ (c : Code) (F : Formed c) (K : Conditions c) where
       let m : n ≤ c .n1 * c .b2 = mul-le-mul-right (c .b2) l in
       independent-most (c .rv) n (rowMember c 0 (c .b1)) (c .rowEntry) (omega (arith, F .rv-most)) first-member
       (λ k lk. F .row-entries k (omega arith))
-      (independent-first (c .n1 * c .b2) n (rowMember c 0 (c .b1)) (c .rowEntry) m (K .rows 0 (c .b1) (omega arith) (omega arith)))
+      (independent-first (c .n1 * c .b2) n (rowMember c 0 (c .b1)) (c .rowEntry) m (K .rows any 0 (c .b1) (omega arith) (omega arith)))
 
   -- in the strips at columns 0 and b2 no remainder stands on one column
   all-member : (x : ℕ) → columnMember c 0 (c .b2) x ≡ true
@@ -67,7 +68,7 @@ module _ (c : Code) (F : Formed c) (K : Conditions c) where
       independent-most (c .rh) (c .b2 * c .b1) (columnMember c 0 (c .b2)) (columnDifference c 0 (c .b2)) (omega (arith, F .rh-most))
       (λ x lx. all-member x)
       (λ x lx. xor-below (c .rh) (stripEntry c 0 x) (stripEntry c (c .b2) x) (strip-below 0 x (omega arith)) (strip-below (c .b2) x (omega arith)))
-      (K .columns 0 (c .b2) (omega (arith, F .b2-pos)) (omega arith)) in
+      (K .columns any 0 (c .b2) (omega (arith, F .b2-pos)) (omega arith)) in
       omega arith
 
 pub checks-on : (c : Code) → Formed c → countBelow (c .n1 * c .n2) (checkAt c) ≡ c .rv + c .rh

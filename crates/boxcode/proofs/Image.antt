@@ -3,6 +3,7 @@
 --   Listed r n g     g 0, …, g (r - 1) are different numbers below n
 --   sum-image        a sum over n places that is 0 off the list is the sum over the list
 --   count-image      so many places are on the list as it has entries
+--   count-injects    places that are taken one to one to places at which something holds are no more than those
 --   picked, unpicked  a value that is chosen, and one that is not
 --   place-listed     the places of the remainders are such a list
 --   strip-sum        a sum over n places that is 0 off the b places from a on is the sum over the remainders modulo b
@@ -22,7 +23,7 @@ use Rattle.finite.specs.Search.{anyBelow, countBelow, place}
 use Rattle.finite.proofs.Truth.{Truth, is-true, is-false, true-or-false, clash}
 use Rattle.finite.proofs.Search.{any-found, any-none}
 use Rattle.finite.proofs.Digits.{place-to, place-mod, place-is}
-use Rattle.finite.proofs.Count.{count-or, count-single, count-none}
+use Rattle.finite.proofs.Count.{count-or, count-single, count-none, count-more, select, select-below, select-holds, select-number}
 
 -- different numbers below n
 pub record Listed (r n : ℕ) (g : ℕ → ℕ) : Type 0 where
@@ -82,6 +83,31 @@ count-image (suc r) n g lst =
 
     plus-one : r + 1 ≡ suc r
     plus-one = omega arith
+
+pub count-injects :
+    (n n' : ℕ) (p p' : ℕ → Bool) (h : ℕ → ℕ) → ((k : ℕ) → k < n → p k ≡ true → (h k < n') × (p' (h k) ≡ true))
+    → ((k l : ℕ) → k < n → l < n → p k ≡ true → p l ≡ true → h k ≡ h l → k ≡ l) → countBelow n p ≤ countBelow n' p'
+count-injects n n' p p' h to one =
+    let r = countBelow n p in
+    let e : countBelow n' (λ t. anyBelow r (λ d. eqb (h (select n p d)) t)) ≡ r = count-image r n' (λ d. h (select n p d)) lst in
+    let l : countBelow n' (λ t. anyBelow r (λ d. eqb (h (select n p d)) t)) ≤ countBelow n' p' =
+    count-more n' (λ t. anyBelow r (λ d. eqb (h (select n p d)) t)) p' (λ t lt a. on t a) in
+    omega arith
+  where
+    lst : Listed (countBelow n p) n' (λ d. h (select n p d))
+    lst = record {
+      below = λ d l. to (select n p d) (select-below n p d l) (select-holds n p d l) .0;
+      different = λ d d' l l' e.
+          sym (select-number n p d l)
+          ∙ ap (λ (t : ℕ). countBelow t p)
+          (one (select n p d) (select n p d') (select-below n p d l) (select-below n p d' l') (select-holds n p d l) (select-holds n p d' l') e)
+          ∙ select-number n p d' l';
+    }
+
+    on : (t : ℕ) → anyBelow (countBelow n p) (λ d. eqb (h (select n p d)) t) ≡ true → p' t ≡ true
+    on t a =
+        let w = any-found (countBelow n p) (λ d. eqb (h (select n p d)) t) a in
+        ap p' (sym (eqb-true (h (select n p (w .0))) t (w .2))) ∙ to (select n p (w .0)) (select-below n p (w .0) (w .1)) (select-holds n p (w .0) (w .1)) .1
 
 -- the places of the remainders are different numbers below n
 pub place-listed : (n b a : ℕ) → 0 < b → a + b ≤ n → Listed b n (place b a)

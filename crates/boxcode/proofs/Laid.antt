@@ -12,20 +12,23 @@
 use mathlib.Core.Path.{_≡_, sym, ap, ap₂, _∙_}
 use mathlib.Core.Bool.{Bool, true, false, _&&_}
 use Prim.Native.Nat.{ℕ, _+_, _*_, _/_, _%_, _≤_, _<_}
-use native.Mathlib.Nat.{mod-lt, div-add-mod'}
+use native.Mathlib.Nat.{mod-lt, div-add-mod', div-lt-iff-lt-mul}
 use native.Mathlib.Omega.{arith}
-use lib.Arith.{digits-lt, digits-div}
+use lib.Arith.{digits-lt, digits-div, digits-mod}
 use Rattle.gf2.specs.Xor.{pick}
 use Rattle.gf2.specs.Sum.{chosenSum}
 use Rattle.gf2.proofs.Sum.{sum-equal}
-use Rattle.finite.specs.Search.{within, place}
+use Rattle.finite.specs.Search.{within, place, few, countBelow}
 use Rattle.boxcode.specs.Code.{Code, Formed}
 use Rattle.boxcode.specs.Syndrome.{Cells, rowSyndrome, columnSyndrome, SameCells}
-use Rattle.boxcode.specs.Burst.{Inside, Burst, hasBurst, burstFor}
+use Rattle.boxcode.specs.Burst.{Inside, Burst, cellCount, hasBurst, burstFor}
 use Rattle.finite.proofs.Truth.{same-truth, not-true, and-left, and-right, and-both, within-from, within-to, in-within}
-use Rattle.finite.proofs.Digits.{place-from, place-to, place-mod, place-is}
+use Rattle.finite.proofs.Digits.{place-from, place-to, place-mod, place-is, place-unique}
+use Rattle.finite.proofs.Count.{few-less}
+use Rattle.boxcode.proofs.Image.{count-injects}
+use Rattle.boxcode.proofs.Cells.{cells-flat}
 use Rattle.boxcode.proofs.Syndrome.{column-cells}
-use Rattle.boxcode.proofs.Pattern.{InWindow, pattern-window, burst-row, patternOf, pattern-at, row-pattern}
+use Rattle.boxcode.proofs.Pattern.{InWindow, pattern-window, pattern-few, one-number, burst-row, patternOf, pattern-at, row-pattern}
 use Rattle.boxcode.proofs.Separated.{Separated}
 use Rattle.boxcode.proofs.Trial.{BurstWith, found}
 
@@ -67,7 +70,9 @@ module _ (c : Code) (F : Formed c) where
           ∙ ap (e i) (place-is (c .b2) (B .left) (F .b2-pos) j from to)
 
   -- where no window has a pattern with the V sum, there is no burst
-  pub none-found : (v h : ℕ) → ((top : ℕ) (p : ℕ → Bool) → top + c .b1 ≤ c .n1 → InWindow c top p → chosenSum (c .n1 * c .b2) p (c .rowEntry) ≡ v → ⊥)
+  pub none-found : (v h : ℕ)
+      → ((top : ℕ) (p : ℕ → Bool) → top + c .b1 ≤ c .n1 → InWindow c top p → few (c .t) (countBelow (c .n1 * c .b2) p) ≡ true
+      → chosenSum (c .n1 * c .b2) p (c .rowEntry) ≡ v → ⊥)
       → hasBurst c v h ≡ false
   none-found v h none =
       not-true (hasBurst c v h)
@@ -75,7 +80,7 @@ module _ (c : Code) (F : Formed c) where
       let f = found c F v h t in
       let B = f .burst in
       none (B .top) (patternOf c (B .left) (burstFor c v h)) (B .rows-on) (pattern-window c F (burstFor c v h) B)
-      (sym (burst-row c F (burstFor c v h) B) ∙ f .row))
+      (pattern-few c F (burstFor c v h) B) (sym (burst-row c F (burstFor c v h) B) ∙ f .row))
 
   pub laid-inside : (top a : ℕ) (p : ℕ → Bool) → InWindow c top p → Inside top a (c .b1) (c .b2) (laid c p a)
   unfolding laid
@@ -91,10 +96,47 @@ module _ (c : Code) (F : Formed c) where
           sym (ap (within top (c .b1)) (digits-div i (mod-lt j (F .b2-pos))))
           ∙ w (i * c .b2 + j % c .b2) (and-right (within a (c .b2) j) (p (i * c .b2 + j % c .b2)) t)
 
+  -- it has no more cells than the pattern has places
+  laid-count : (a : ℕ) (p : ℕ → Bool) → cellCount (c .n1) (c .n2) (laid c p a) ≤ countBelow (c .n1 * c .b2) p
+  unfolding laid
+  laid-count a p =
+      let flat = cells-flat (c .n1) (c .n2) (laid c p a) in
+      let l : countBelow (c .n1 * c .n2) (λ t. laid c p a (t / c .n2) (t % c .n2)) ≤ countBelow (c .n1 * c .b2) p =
+      count-injects (c .n1 * c .n2) (c .n1 * c .b2) (λ t. laid c p a (t / c .n2) (t % c .n2)) p (λ t. t / c .n2 * c .b2 + t % c .n2 % c .b2)
+      (λ t l e. (
+        digits-lt (div-lt-iff-lt-mul columns-pos .1 l) (mod-lt (t % c .n2) (F .b2-pos)),
+        and-right (within a (c .b2) (t % c .n2)) (p (t / c .n2 * c .b2 + t % c .n2 % c .b2)) e,
+      ))
+      (λ t u lt lu et eu q. one-number (c .n2) t u
+      (sym (digits-div (t / c .n2) (mod-lt (t % c .n2) (F .b2-pos))) ∙ ap (λ (k : ℕ). k / c .b2) q ∙ digits-div (u / c .n2) (mod-lt (u % c .n2) (F .b2-pos)))
+      (place-unique (c .b2) a (F .b2-pos) (t % c .n2) (u % c .n2) (from t et) (to t et) (from u eu) (to u eu)
+      (sym (digits-mod (t / c .n2) (mod-lt (t % c .n2) (F .b2-pos))) ∙ ap (λ (k : ℕ). k % c .b2) q ∙ digits-mod (u / c .n2)
+      (mod-lt (u % c .n2) (F .b2-pos))))) in
+      omega arith
+    where
+      columns-pos : 0 < c .n2
+      columns-pos = omega (arith, F .b2-pos, F .n2-least)
+
+      inside : (t : ℕ) → (within a (c .b2) (t % c .n2) && p (t / c .n2 * c .b2 + t % c .n2 % c .b2)) ≡ true → within a (c .b2) (t % c .n2) ≡ true
+      inside t e = and-left (within a (c .b2) (t % c .n2)) (p (t / c .n2 * c .b2 + t % c .n2 % c .b2)) e
+
+      from : (t : ℕ) → (within a (c .b2) (t % c .n2) && p (t / c .n2 * c .b2 + t % c .n2 % c .b2)) ≡ true → a ≤ t % c .n2
+      from t e = within-from a (c .b2) (t % c .n2) (inside t e)
+
+      to : (t : ℕ) → (within a (c .b2) (t % c .n2) && p (t / c .n2 * c .b2 + t % c .n2 % c .b2)) ≡ true → t % c .n2 < a + c .b2
+      to t e = within-to a (c .b2) (t % c .n2) (inside t e)
+
   -- a pattern in a window of the sheet
-  module _ (top : ℕ) (p : ℕ → Bool) (w : InWindow c top p) (rows : top + c .b1 ≤ c .n1) where
+  module _ (top : ℕ) (p : ℕ → Bool) (w : InWindow c top p) (s : few (c .t) (countBelow (c .n1 * c .b2) p) ≡ true) (rows : top + c .b1 ≤ c .n1) where
     pub laid-burst : (a : ℕ) → a + c .b2 ≤ c .n2 → Burst c (laid c p a)
-    laid-burst a columns = record { top = top; left = a; rows-on = rows; columns-on = columns; inside = laid-inside top a p w }
+    laid-burst a columns = record {
+      top = top;
+      left = a;
+      rows-on = rows;
+      columns-on = columns;
+      inside = laid-inside top a p w;
+      sparse = few-less (c .t) (cellCount (c .n1) (c .n2) (laid c p a)) (countBelow (c .n1 * c .b2) p) (laid-count a p) s;
+    }
 
     pub laid-row : (a : ℕ) → a + c .b2 ≤ c .n2 → rowSyndrome c (laid c p a) ≡ chosenSum (c .n1 * c .b2) p (c .rowEntry)
     laid-row a columns =

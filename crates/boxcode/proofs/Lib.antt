@@ -1,5 +1,6 @@
 -- The theorems about the definitions of specs/.
 pub mod Image
+pub mod Cells
 pub mod Syndrome
 pub mod Run
 pub mod Pattern

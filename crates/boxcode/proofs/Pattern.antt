@@ -7,25 +7,29 @@
 --   pattern-at, same-at, cell-home, cell-member   its cells, in its pattern and among its members
 --   row-pattern     its V sum, over its pattern
 --   column-members  its H sum, over its members
---   InWindow, pattern-window, burst-row   the pattern of a burst is in its window and has its V sum
+--   pattern-count, member-count   neither has more places than the set has cells
+--   InWindow, pattern-window, pattern-few, burst-row   the pattern of a burst is in its window, has few places as the burst has few cells, and has its V sum
 --
 -- Assumes nothing.
 use mathlib.Core.Path.{_≡_, sym, ap, ap₂, _∙_}
 use mathlib.Core.Bool.{Bool, true, false}
 use Prim.Native.Nat.{ℕ, _+_, _*_, _/_, _%_, _≤_, _<_}
-use native.Mathlib.Nat.{mod-lt}
+use native.Mathlib.Nat.{mod-lt, div-lt-iff-lt-mul, div-add-mod'}
+use native.Mathlib.Omega.{arith}
 use lib.Arith.{digits-lt, digits-div, digits-mod}
 use Rattle.gf2.specs.Xor.{pick}
 use Rattle.gf2.specs.Sum.{xorSum, chosenSum}
 use Rattle.gf2.proofs.Sum.{sum-equal, sum-exchange, sum-blocks}
-use Rattle.finite.specs.Search.{within, place}
+use Rattle.finite.specs.Search.{within, place, few, countBelow}
 use Rattle.boxcode.specs.Code.{Code, Formed, rowWeight, columnWeight}
 use Rattle.boxcode.specs.Condition.{stripEntry}
 use Rattle.boxcode.specs.Syndrome.{Cells, weightSum, rowSyndrome, columnSyndrome}
-use Rattle.boxcode.specs.Burst.{Inside, Burst}
+use Rattle.boxcode.specs.Burst.{Inside, Burst, cellCount}
 use Rattle.finite.proofs.Truth.{not-true, in-within}
-use Rattle.finite.proofs.Digits.{place-mod, place-is}
-use Rattle.boxcode.proofs.Image.{strip-sum, unpicked}
+use Rattle.finite.proofs.Count.{few-less}
+use Rattle.finite.proofs.Digits.{place-to, place-mod, place-is}
+use Rattle.boxcode.proofs.Image.{strip-sum, unpicked, count-injects}
+use Rattle.boxcode.proofs.Cells.{cells-flat}
 
 -- position k of the row table stands for row k / b2 and remainder k % b2
 unfoldable pub patternOf : Code → ℕ → Cells → ℕ → Bool
@@ -71,6 +75,10 @@ module _ (n m top left height width : ℕ) (hp : 0 < height) (wp : 0 < width) (r
 
       off : (i j : ℕ) → (top ≤ i → i < top + height → ⊥) → e i j ≡ false
       off i j h = not-true (e i j) (λ t. h (on .row-from i j t) (on .row-to i j t))
+
+-- a number is its quotient and its remainder
+pub one-number : (b k l : ℕ) → k / b ≡ l / b → k % b ≡ l % b → k ≡ l
+one-number b k l q r = sym (div-add-mod' k b) ∙ ap₂ (λ (x y : ℕ). x * b + y) q r ∙ div-add-mod' l b
 
 -- ---- patterns under a code
 
@@ -138,6 +146,65 @@ module _ (c : Code) (F : Formed c) where
         (digits-div (j % c .b2) (mod-lt i (F .b1-pos)))
         ∙ ap₂ e (place-is (c .b1) top (F .b1-pos) i (on .row-from i j t) (on .row-to i j t)) (cell-home i j t) ∙ t
 
+  -- ---- how many
+
+  -- a cell by its number, of two numbers with the same row and column
+  one-cell : (i i' j j' : ℕ) → j < c .n2 → j' < c .n2 → i * c .n2 + j ≡ i' * c .n2 + j' → (i ≡ i') × (j ≡ j')
+  one-cell i i' j j' l l' e = (
+    sym (digits-div i l) ∙ ap (λ (t : ℕ). t / c .n2) e ∙ digits-div i' l',
+    sym (digits-mod i l) ∙ ap (λ (t : ℕ). t % c .n2) e ∙ digits-mod i' l',
+  )
+
+  module _ (left : ℕ) (columns : left + c .b2 ≤ c .n2) (e : Cells) where
+    column-on : (r : ℕ) → place (c .b2) left r < c .n2
+    column-on r = omega (arith, place-to (c .b2) left (F .b2-pos) r)
+
+    column-one : (r r' : ℕ) → r < c .b2 → r' < c .b2 → place (c .b2) left r ≡ place (c .b2) left r' → r ≡ r'
+    column-one r r' l l' e = sym (place-mod (c .b2) left (F .b2-pos) r l) ∙ ap (λ (x : ℕ). x % c .b2) e ∙ place-mod (c .b2) left (F .b2-pos) r' l'
+
+    pub pattern-count : countBelow (c .n1 * c .b2) (patternOf c left e) ≤ cellCount (c .n1) (c .n2) e
+    unfolding patternOf
+    pattern-count =
+        let flat = cells-flat (c .n1) (c .n2) e in
+        let l : countBelow (c .n1 * c .b2) (patternOf c left e) ≤ countBelow (c .n1 * c .n2) (λ t. e (t / c .n2) (t % c .n2)) =
+        count-injects (c .n1 * c .b2) (c .n1 * c .n2) (patternOf c left e) (λ t. e (t / c .n2) (t % c .n2))
+        (λ k. k / c .b2 * c .n2 + place (c .b2) left (k % c .b2))
+        (λ k l t. (
+          digits-lt (div-lt-iff-lt-mul (F .b2-pos) .1 l) (column-on (k % c .b2)),
+          ap₂ e (digits-div (k / c .b2) (column-on (k % c .b2))) (digits-mod (k / c .b2) (column-on (k % c .b2))) ∙ t,
+        ))
+        (λ k l lk ll tk tl q.
+        let p = one-cell (k / c .b2) (l / c .b2) (place (c .b2) left (k % c .b2)) (place (c .b2) left (l % c .b2)) (column-on (k % c .b2))
+        (column-on (l % c .b2)) q in
+        one-number (c .b2) k l (p .0) (column-one (k % c .b2) (l % c .b2) (mod-lt k (F .b2-pos)) (mod-lt l (F .b2-pos)) (p .1))) in
+        omega arith
+
+    module _ (top : ℕ) (rows : top + c .b1 ≤ c .n1) where
+      row-on : (r : ℕ) → place (c .b1) top r < c .n1
+      row-on r = omega (arith, place-to (c .b1) top (F .b1-pos) r)
+
+      row-one : (r r' : ℕ) → r < c .b1 → r' < c .b1 → place (c .b1) top r ≡ place (c .b1) top r' → r ≡ r'
+      row-one r r' l l' e = sym (place-mod (c .b1) top (F .b1-pos) r l) ∙ ap (λ (x : ℕ). x % c .b1) e ∙ place-mod (c .b1) top (F .b1-pos) r' l'
+
+      pub member-count : countBelow (c .b2 * c .b1) (memberCell c top left e) ≤ cellCount (c .n1) (c .n2) e
+      unfolding memberCell
+      member-count =
+          let flat = cells-flat (c .n1) (c .n2) e in
+          let l : countBelow (c .b2 * c .b1) (memberCell c top left e) ≤ countBelow (c .n1 * c .n2) (λ t. e (t / c .n2) (t % c .n2)) =
+          count-injects (c .b2 * c .b1) (c .n1 * c .n2) (memberCell c top left e) (λ t. e (t / c .n2) (t % c .n2))
+          (λ x. place (c .b1) top (x % c .b1) * c .n2 + place (c .b2) left (x / c .b1))
+          (λ x l t. (
+            digits-lt (row-on (x % c .b1)) (column-on (x / c .b1)),
+            ap₂ e (digits-div (place (c .b1) top (x % c .b1)) (column-on (x / c .b1))) (digits-mod (place (c .b1) top (x % c .b1)) (column-on (x / c .b1))) ∙ t,
+          ))
+          (λ x y lx ly tx ty q.
+          let p = one-cell (place (c .b1) top (x % c .b1)) (place (c .b1) top (y % c .b1)) (place (c .b2) left (x / c .b1)) (place (c .b2) left (y / c .b1))
+          (column-on (x / c .b1)) (column-on (y / c .b1)) q in
+          one-number (c .b1) x y
+          (column-one (x / c .b1) (y / c .b1) (div-lt-iff-lt-mul (F .b1-pos) .1 lx) (div-lt-iff-lt-mul (F .b1-pos) .1 ly) (p .1))
+          (row-one (x % c .b1) (y % c .b1) (mod-lt x (F .b1-pos)) (mod-lt y (F .b1-pos)) (p .0))) in
+          omega arith
+
   -- the pattern of a burst is in its window, and has its V sum
   pub pattern-window : (e : Cells) (B : Burst c e) → InWindow c (B .top) (patternOf c (B .left) e)
   unfolding patternOf
@@ -145,6 +212,11 @@ module _ (c : Code) (F : Formed c) where
       let i = k / c .b2 in
       let j = place (c .b2) (B .left) (k % c .b2) in
       in-within (B .top) (c .b1) i (B .inside .row-from i j t) (B .inside .row-to i j t)
+
+  pub pattern-few : (e : Cells) (B : Burst c e) → few (c .t) (countBelow (c .n1 * c .b2) (patternOf c (B .left) e)) ≡ true
+  pattern-few e B =
+      few-less (c .t) (countBelow (c .n1 * c .b2) (patternOf c (B .left) e)) (cellCount (c .n1) (c .n2) e)
+      (pattern-count (B .left) (B .columns-on) e) (B .sparse)
 
   pub burst-row : (e : Cells) (B : Burst c e) → rowSyndrome c e ≡ chosenSum (c .n1 * c .b2) (patternOf c (B .left) e) (c .rowEntry)
   burst-row e B = row-pattern (B .top) (B .left) (B .rows-on) (B .columns-on) e (B .inside)

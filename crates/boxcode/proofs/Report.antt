@@ -1,7 +1,5 @@
 -- The report of a set of cells:
 --
---   cells-equal, cells-flat, cells-some, cells-none   the number of cells: by cell numbers, and where it is 0
---   box-count             a set in a rectangle has at most height × width cells
 --   run-on                the run from the first place at which something holds to the last ends below the bound
 --   box-place             digit k of a pattern number stands in a row and in a column of the rectangle
 --   report-cells          equal cells on the sheet give equal reports
@@ -23,75 +21,16 @@ use lib.Pow.{pow-mono}
 use Rattle.finite.specs.Search.{bit, numberOf, anyBelow, countBelow, firstOf, pastOf}
 use Rattle.boxcode.specs.Code.{Code, Formed}
 use Rattle.boxcode.specs.Syndrome.{Cells, SameCells}
-use Rattle.boxcode.specs.Burst.{Inside, Burst, boxCells, boxNumber}
-use Rattle.boxcode.specs.Reader.{Report, cellCount, rowTouched, columnTouched, topOf, leftOf, heightOf, widthOf, reportOf, noReport, LiesIn}
+use Rattle.boxcode.specs.Burst.{Inside, Burst, cellCount, boxCells, boxNumber}
+use Rattle.boxcode.specs.Reader.{Report, rowTouched, columnTouched, topOf, leftOf, heightOf, widthOf, reportOf, noReport, LiesIn}
 use Rattle.finite.proofs.Truth.{Truth, is-true, is-false, true-or-false, clash, not-true}
 use Rattle.finite.proofs.Search.{any-found, any-here, any-none, none-any, any-equal, first-is, first-none, first-equal, past-le, past-above}
 use Rattle.finite.proofs.Search.{past-last, past-none, past-equal}
 use Rattle.finite.proofs.Count.{count-equal, count-none, count-rise, count-split, count-run}
 use Rattle.finite.proofs.Digits.{number-equal, number-below}
+use Rattle.boxcode.proofs.Cells.{cells-equal, cells-none, cells-some, box-count}
 use Rattle.boxcode.proofs.Burst.{OnSheet}
 use Rattle.boxcode.proofs.Trial.{box-bit, box-number}
-
--- ---- the number of cells
-
-pub cells-equal : (n m : ℕ) (e e' : Cells) → ((i j : ℕ) → i < n → j < m → e i j ≡ e' i j) → cellCount n m e ≡ cellCount n m e'
-unfolding cellCount
-cells-equal zero m e e' h = refl
-cells-equal (suc n) m e e' h =
-    ap₂ _+_ (cells-equal n m e e' (λ i j li. h i j (omega arith))) (count-equal m (e n) (e' n) (λ j lj. h n j (lt-suc-self n) lj))
-
-pub cells-flat : (n m : ℕ) (e : Cells) → cellCount n m e ≡ countBelow (n * m) (λ t. e (t / m) (t % m))
-unfolding cellCount
-cells-flat zero m e =
-    sym (ap (λ (x : ℕ). countBelow x (λ t. e (t / m) (t % m))) (zero-mul m) ∙ count-none 0 (λ t. e (t / m) (t % m)) (λ k l. absurd (omega arith)))
-cells-flat (suc n) m e =
-    ap₂ _+_ (cells-flat n m e) (count-equal m (e n) (λ j. e ((n * m + j) / m) ((n * m + j) % m)) (λ j l. sym (ap₂ e (digits-div n l) (digits-mod n l))))
-    ∙ sym (ap (λ (x : ℕ). countBelow x (λ t. e (t / m) (t % m))) (suc-mul n m) ∙ count-split (n * m) m (λ t. e (t / m) (t % m)))
-
--- a set in a rectangle has at most so many cells: also by the rows counted so far
-box-rows : (top left height width : ℕ) (e : Cells) → Inside top left height width e → (n m : ℕ)
-    → (cellCount n m e ≤ (n - top) * width) × (cellCount n m e ≤ height * width)
-unfolding cellCount
-box-rows top left height width e on zero m = omega arith
-box-rows top left height width e on (suc n) m = go (true-or-false (anyBelow m (e n))) (box-rows top left height width e on n m)
-  where
-    row : countBelow m (e n) ≤ width
-    row = count-run left width (e n) (λ j t. on .column-from n j t) (λ j t. on .column-to n j t) m .1
-
-    go : Truth (anyBelow m (e n)) → (cellCount n m e ≤ (n - top) * width) × (cellCount n m e ≤ height * width)
-        → (cellCount n m e + countBelow m (e n) ≤ (suc n - top) * width) × (cellCount n m e + countBelow m (e n) ≤ height * width)
-    go (is-true t) ih =
-        let w = any-found m (e n) t in
-        let f : top ≤ n = on .row-from n (w .0) (w .2) in
-        let g : n < top + height = on .row-to n (w .0) (w .2) in
-        let r : countBelow m (e n) ≤ width = row in
-        let k : suc (n - top) ≤ height = omega arith in
-        let p : suc (n - top) * width ≤ height * width = mul-le-mul-right width k in
-        let q : suc (n - top) * width ≡ (n - top) * width + width = suc-mul (n - top) width in
-        let s : (suc n - top) * width ≡ suc (n - top) * width = ap (λ (x : ℕ). x * width) (let z : suc n - top ≡ suc (n - top) = omega arith in z) in
-        omega arith
-    go (is-false t) ih =
-        let z : countBelow m (e n) ≡ 0 = count-none m (e n) (any-none m (e n) t) in
-        let k : n - top ≤ suc n - top = omega arith in
-        let p : (n - top) * width ≤ (suc n - top) * width = mul-le-mul-right width k in
-        omega arith
-
-pub box-count : (top left height width : ℕ) (e : Cells) → Inside top left height width e → (n m : ℕ) → cellCount n m e ≤ height * width
-box-count top left height width e on n m = box-rows top left height width e on n m .1
-
-pub cells-some : (n m : ℕ) (e : Cells) (i j : ℕ) → i < n → j < m → e i j ≡ true → 0 < cellCount n m e
-cells-some n m e i j li lj t =
-    let p : ℕ → Bool = λ t. e (t / m) (t % m) in
-    let r : countBelow (i * m + j) p < countBelow (n * m) p =
-    count-rise (i * m + j) (n * m) p (ap₂ e (digits-div i lj) (digits-mod i lj) ∙ t) (digits-lt li lj) in
-    let f : cellCount n m e ≡ countBelow (n * m) p = cells-flat n m e in
-    omega arith
-
-pub cells-none : (n m : ℕ) (e : Cells) → ((i j : ℕ) → i < n → j < m → e i j ≡ false) → cellCount n m e ≡ 0
-unfolding cellCount
-cells-none zero m e h = refl
-cells-none (suc n) m e h = ap₂ _+_ (cells-none n m e (λ i j li. h i j (omega arith))) (count-none m (e n) (λ j lj. h n j (lt-suc-self n) lj))
 
 -- ---- the run from the first place at which p holds to the last: rows and columns alike
 

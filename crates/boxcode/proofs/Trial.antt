@@ -3,30 +3,32 @@
 --   box-inside, box-cell     a pattern number gives cells inside its rectangle, one for each digit
 --   box-bit, box-number      a set of cells has a number in a rectangle, one digit for each cell; and if it lies inside, the number gives the set
 --   trial-rows, trial-columns   the rectangle of a trial lies on the sheet
---   trial-burst, burst-trial   every trial is a burst, and every burst is a trial
+--   trial-burst, burst-trial   every trial of few cells is a burst, and every burst is a trial
 --   BurstWith                a burst with two given sums
 --   found                    where hasBurst holds, burstFor is such a burst
 --   has-burst                where there is such a burst, hasBurst holds
 --   burst-is                 under separation it is that burst
 --
 -- Assumes nothing.
-use mathlib.Core.Path.{_≡_, sym, ap₂, _∙_}
+use mathlib.Core.Path.{_≡_, sym, ap, ap₂, _∙_}
 use mathlib.Core.Bool.{Bool, true, _&&_}
 use Prim.Native.Nat.{ℕ, _+_, _-_, _*_, _/_, _%_, _≤_, _<_}
 use native.Mathlib.Nat.{mod-lt, div-lt-iff-lt-mul}
 use native.Mathlib.Omega.{arith}
+use lib.Dec.{eqb}
 use lib.Arith.{digits-lt, digits-div, digits-mod}
 use lib.Pow.{pow-pos}
 use borrow.Author.Tests.{ltb-true, lt-ltb}
-use Rattle.finite.specs.Search.{bit, within, least}
+use Rattle.finite.specs.Search.{bit, within, few, least}
 use Rattle.boxcode.specs.Code.{Code, Formed}
 use Rattle.boxcode.specs.Syndrome.{Cells, rowSyndrome, columnSyndrome, SameCells}
-use Rattle.boxcode.specs.Burst.{Inside, Burst, boxCells, boxNumber, patterns, lefts, trials, trialTop, trialLeft, trialPattern, trialCells}
+use Rattle.boxcode.specs.Burst.{Inside, Burst, cellCount, boxCells, boxNumber, patterns, lefts, trials, trialTop, trialLeft, trialPattern, trialCells}
 use Rattle.boxcode.specs.Burst.{tried, hasBurst, burstFor}
-use Rattle.finite.proofs.Truth.{both-equal, equal-both, same-truth, and-left, and-right, and-both, within-from, within-to, in-within}
+use Rattle.finite.proofs.Truth.{both, both-equal, equal-both, same-truth, and-left, and-right, and-both, within-from, within-to, in-within}
 use Rattle.finite.proofs.Search.{least-found, least-most}
 use Rattle.finite.proofs.Digits.{number-below, bit-number}
 use Rattle.boxcode.proofs.Syndrome.{row-cells, column-cells}
+use Rattle.boxcode.proofs.Cells.{cells-equal}
 use Rattle.boxcode.proofs.Separated.{Separated, unique}
 
 -- ---- patterns of a rectangle
@@ -114,14 +116,15 @@ module _ (c : Code) (F : Formed c) where
       left-on : {a : ℕ} → a < lefts c → a + c .b2 ≤ c .n2
       left-on h = let f : c .b2 ≤ c .n2 = F .n2-least in unfold lefts in omega arith
 
-  pub trial-burst : (t : ℕ) → t < trials c → Burst c (trialCells c t)
+  pub trial-burst : (t : ℕ) → t < trials c → few (c .t) (cellCount (c .n1) (c .n2) (trialCells c t)) ≡ true → Burst c (trialCells c t)
   unfolding trialCells
-  trial-burst t l = record {
+  trial-burst t l s = record {
     top = trialTop c t;
     left = trialLeft c t;
     rows-on = trial-rows t l;
     columns-on = trial-columns t;
     inside = box-inside (trialTop c t) (trialLeft c t) (c .b1) (c .b2) (trialPattern c t);
+    sparse = s;
   }
 
   pub burst-trial : (e : Cells) → Burst c e → (t : ℕ) × (t < trials c) × ((i j : ℕ) → trialCells c t i j ≡ e i j)
@@ -164,8 +167,11 @@ module _ (c : Code) (F : Formed c) (v h : ℕ) where
   unfolding hasBurst burstFor tried
   found t =
       let below : least (trials c) (tried c v h) < trials c = ltb-true (least (trials c) (tried c v h)) (trials c) t in
-      let sums = both-equal (rowSyndrome c (burstFor c v h)) (columnSyndrome c (burstFor c v h)) v h (least-found (trials c) (tried c v h) below) in
-      record { burst = trial-burst c F (least (trials c) (tried c v h)) below; row = sums .0; column = sums .1 }
+      let e = burstFor c v h in
+      let all = both (eqb (rowSyndrome c e) v && eqb (columnSyndrome c e) h) (few (c .t) (cellCount (c .n1) (c .n2) e))
+      (least-found (trials c) (tried c v h) below) in
+      let sums = both-equal (rowSyndrome c e) (columnSyndrome c e) v h (all .0) in
+      record { burst = trial-burst c F (least (trials c) (tried c v h)) below (all .1); row = sums .0; column = sums .1 }
 
   pub has-burst : (e : Cells) → BurstWith c v h e → hasBurst c v h ≡ true
   unfolding hasBurst tried
@@ -176,8 +182,11 @@ module _ (c : Code) (F : Formed c) (v h : ℕ) where
       let cells : SameCells c (trialCells c t) e = λ i j li lj. w .2 i j in
       let m : least (trials c) (tried c v h) ≤ t =
       least-most (trials c) (tried c v h) t
+      (and-both (eqb (rowSyndrome c (trialCells c t)) v && eqb (columnSyndrome c (trialCells c t)) h)
+      (few (c .t) (cellCount (c .n1) (c .n2) (trialCells c t)))
       (equal-both (rowSyndrome c (trialCells c t)) (columnSyndrome c (trialCells c t)) v h
-      (row-cells c (trialCells c t) e cells ∙ f .row) (column-cells c (trialCells c t) e cells ∙ f .column)) in
+      (row-cells c (trialCells c t) e cells ∙ f .row) (column-cells c (trialCells c t) e cells ∙ f .column))
+      (ap (few (c .t)) (cells-equal (c .n1) (c .n2) (trialCells c t) e cells) ∙ f .burst .sparse)) in
       lt-ltb (least (trials c) (tried c v h)) (trials c) (omega arith)
 
   pub burst-is : Separated c → (e : Cells) → BurstWith c v h e → (i j : ℕ) → burstFor c v h i j ≡ e i j

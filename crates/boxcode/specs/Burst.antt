@@ -2,6 +2,7 @@
 --
 --   Burst c e        e is a set of cells inside one rectangle of b1 rows and b2 columns on the sheet
 --   Fits c s e       the sheet with e turned over belongs to the plan
+--   cellCount        the number of cells of a set
 --   boxCells         the cells of pattern number x in a rectangle: row r and column t of it have digit r × width + t
 --   boxNumber        the number of the pattern that a set of cells has in a rectangle
 --   trials           how many rectangles and patterns there are to try
@@ -10,11 +11,11 @@
 --   tried            trial number t has the two sums that are asked for
 --   firstTrial       the first that has
 --   hasBurst, burstFor   some burst has these two sums; the first that has
-use Prim.Native.Nat.{ℕ, _+_, _-_, _*_, _/_, _%_, _^_, _≤_, _<_}
+use Prim.Native.Nat.{ℕ, zero, suc, _+_, _-_, _*_, _/_, _%_, _^_, _≤_, _<_}
 use mathlib.Core.Path.{_≡_}
 use mathlib.Core.Bool.{Bool, true, _&&_}
 use lib.Dec.{eqb, ltb}
-use Rattle.finite.specs.Search.{bit, within, least, numberOf}
+use Rattle.finite.specs.Search.{bit, within, countBelow, few, least, numberOf}
 use Rattle.boxcode.specs.Code.{Code}
 use Rattle.boxcode.specs.Syndrome.{Cells, Belongs, flip, rowSyndrome, columnSyndrome}
 
@@ -24,12 +25,19 @@ pub record Inside (top left height width : ℕ) (e : Cells) : Type 0 where
   pub column-from : (i j : ℕ) → e i j ≡ true → left ≤ j
   pub column-to : (i j : ℕ) → e i j ≡ true → j < left + width
 
+-- the number of cells of a set on the first n rows of m columns
+unfoldable pub cellCount : ℕ → ℕ → Cells → ℕ
+cellCount zero m e = 0
+cellCount (suc n) m e = cellCount n m e + countBelow m (e n)
+
 pub record Burst (c : Code) (e : Cells) : Type 0 where
   pub top : ℕ
   pub left : ℕ
   pub rows-on : top + c .b1 ≤ c .n1
   pub columns-on : left + c .b2 ≤ c .n2
   pub inside : Inside top left (c .b1) (c .b2) e
+  -- 02 m: "With t of 1 or 2, a blot has at most t cells"
+  pub sparse : few (c .t) (cellCount (c .n1) (c .n2) e) ≡ true
 
 abbrev pub Fits : Code → Cells → Cells → Type 0
 Fits c s e = Belongs c (flip s e)
@@ -64,7 +72,9 @@ unfoldable pub trialCells : Code → ℕ → Cells
 trialCells c t = boxCells (trialTop c t) (trialLeft c t) (c .b1) (c .b2) (trialPattern c t)
 
 unfoldable pub tried : Code → ℕ → ℕ → ℕ → Bool
-tried c v h t = eqb (rowSyndrome c (trialCells c t)) v && eqb (columnSyndrome c (trialCells c t)) h
+tried c v h t =
+    (eqb (rowSyndrome c (trialCells c t)) v && eqb (columnSyndrome c (trialCells c t)) h)
+    && few (c .t) (cellCount (c .n1) (c .n2) (trialCells c t))
 
 abbrev pub firstTrial : Code → ℕ → ℕ → ℕ
 firstTrial c v h = least (trials c) (tried c v h)

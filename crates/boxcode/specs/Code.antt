@@ -1,7 +1,7 @@
 -- A code: the numbers and tables of a plan, as functions (document 01, "Plan bytes").
 --
---   Code            n1 rows (01: courses), n2 columns (01: needles), bursts (01: blots) of b1 rows by b2 columns, entries
---                   of rv and rh bits, the row table V, the column table H and the list of check cells
+--   Code            n1 rows (01: courses), n2 columns (01: needles), bursts (01: blots) of b1 rows by b2 columns and, where t is not 0,
+--                   of at most t cells (02 m), entries of rv and rh bits, the row table V, the column table H and the list of check cells
 --   rowWeight       the V entry of cell (i, j)
 --   columnWeight    the H entry of cell (i, j)
 --   jointWeight     the joint entry, V + 2 to the power rv × H
@@ -14,6 +14,7 @@ pub record Code : Type 0 where
   pub n2 : ℕ
   pub b1 : ℕ
   pub b2 : ℕ
+  pub t : ℕ
   pub rv : ℕ
   pub rh : ℕ
   pub rowEntry : ℕ → ℕ
@@ -42,6 +43,7 @@ pub record Formed (c : Code) : Type 0 where
   pub b1-most : c .b1 ≤ 4
   pub b2-pos : 1 ≤ c .b2
   pub b2-most : c .b2 ≤ 4
+  pub t-most : c .t ≤ 2
   pub n1-least : c .b1 ≤ c .n1
   pub n1-most : c .n1 ≤ 512
   pub n2-least : c .b2 ≤ c .n2

@@ -3,18 +3,17 @@
 --   change       the cells that are turned over: the first burst, possibly empty, that brings both sums to 0
 --   mended       the sheet after that
 --   Report       how many cells were turned over, the smallest rectangle that holds them, and their pattern in it (02 k); six zeros where none were
---   cellCount    the number of cells of a set
 --   rowTouched, columnTouched   a row, and a column, has a cell of the set
 --   topOf, leftOf, heightOf, widthOf   the smallest rectangle that holds a set of cells
 --   reportOf     the report of a set of cells
 --   noReport     six zeros
 --   LiesIn       the rectangle of a report lies in another
-use Prim.Native.Nat.{ℕ, zero, suc, _+_, _-_, _≤_}
+use Prim.Native.Nat.{ℕ, _+_, _-_, _≤_}
 use mathlib.Core.Bool.{Bool}
-use Rattle.finite.specs.Search.{anyBelow, countBelow, firstOf, pastOf}
+use Rattle.finite.specs.Search.{anyBelow, firstOf, pastOf}
 use Rattle.boxcode.specs.Code.{Code}
 use Rattle.boxcode.specs.Syndrome.{Cells, flip, rowSyndrome, columnSyndrome}
-use Rattle.boxcode.specs.Burst.{boxNumber, burstFor}
+use Rattle.boxcode.specs.Burst.{cellCount, boxNumber, burstFor}
 
 unfoldable pub change : Code → Cells → Cells
 change c s = burstFor c (rowSyndrome c s) (columnSyndrome c s)
@@ -29,11 +28,6 @@ pub record Report : Type 0 where
   pub height : ℕ
   pub width : ℕ
   pub pattern : ℕ
-
--- the number of cells of a set on the first n rows
-unfoldable pub cellCount : ℕ → ℕ → Cells → ℕ
-cellCount zero m e = 0
-cellCount (suc n) m e = cellCount n m e + countBelow m (e n)
 
 -- row i, and column j, has a cell of the set
 unfoldable pub rowTouched : Code → Cells → ℕ → Bool

@@ -13,7 +13,7 @@ use Rattle.plan.specs.declared.verdict.Verdict.{Verdict}
 use Rattle.plan.specs.Verdict.{accepted, _orElse_}
 use Rattle.plan.specs.Header.{headerOf}
 use Rattle.plan.specs.Bytes.{codeOf}
-use Rattle.plan.specs.Form.{badBurst, badSheet, badWidths, badOffsets, sizesVerdict, offsetsVerdict, fieldsVerdict, headerVerdict}
+use Rattle.plan.specs.Form.{badBurst, badSheet, badWidths, badCells, badOffsets, sizesVerdict, offsetsVerdict, fieldsVerdict, headerVerdict}
 use Rattle.plan.specs.Form.{firstLarge, entriesVerdict, rises, badPair, listVerdict, formVerdict}
 use Rattle.layout.specs.Number.{u16At, u32At}
 use Rattle.finite.specs.Search.{least, within, place}
@@ -22,15 +22,15 @@ use Rattle.gf2.specs.Independence.{spanned, free}
 use Rattle.boxcode.specs.Code.{rowWeight, columnWeight, jointWeight, checkJoint}
 use Rattle.boxcode.specs.Condition.{rowMember, columnMember, columnDifference, stripEntry, rowPairFree, columnPairFree}
 use Rattle.cases.specs.Plans.{S, T, planS, planT, planBytes}
-use Rattle.finite.specs.Search.{bit, numberOf, anyBelow, countBelow, firstOf, pastOf}
+use Rattle.finite.specs.Search.{bit, numberOf, anyBelow, countBelow, few, firstOf, pastOf}
 use Rattle.gf2.specs.Xor.{pick}
 use Rattle.gf2.specs.Sum.{xorSum}
 use Rattle.layout.specs.Cells.{rowBytes, sheetBytes, byteOf, cellOf, usedBits, unusedAt, firstUnused, tabulate, byteFrom, bytesOf}
 use Rattle.boxcode.specs.Code.{cellNumber}
 use Rattle.boxcode.specs.Syndrome.{weightSum, rowSyndrome, columnSyndrome}
-use Rattle.boxcode.specs.Burst.{boxCells, boxNumber, patterns, lefts, trials, trialCells, tried, hasBurst, burstFor}
+use Rattle.boxcode.specs.Burst.{cellCount, boxCells, boxNumber, patterns, lefts, trials, trialCells, tried, hasBurst, burstFor}
 use Rattle.boxcode.specs.Check.{checkNumber, checkAt, checkIndex, runsDown, dataColumn, dataOrder, dataSize, rank, dataCell, fill, belongs, written, dataOf}
-use Rattle.boxcode.specs.Reader.{change, mended, cellCount, rowTouched, columnTouched, reportOf}
+use Rattle.boxcode.specs.Reader.{change, mended, rowTouched, columnTouched, reportOf}
 use Rattle.buffers.specs.Buffers.{lengthVerdict, unusedVerdict, sheetChecks, lengthChecks, writeChecks, readChecks}
 use Rattle.writer.specs.Write.{writtenIn, writeIn, write}
 use Rattle.mend.specs.Found.{firstBurst}
@@ -45,9 +45,9 @@ run (reading plan sheet bits o) = reading plan sheet bits (readOutcome plan shee
 
 pub cases-hold : map run table ≡ table
 unfolding table S T planS planT planBytes planVerdict conditionsVerdict rowsVerdict columnsVerdict checksVerdict inRow fromRow
-    firstFailing _orElse_ headerOf codeOf badBurst badSheet badWidths badOffsets sizesVerdict offsetsVerdict fieldsVerdict headerVerdict
+    firstFailing _orElse_ headerOf codeOf badBurst badSheet badWidths badCells badOffsets sizesVerdict offsetsVerdict fieldsVerdict headerVerdict
     firstLarge entriesVerdict rises badPair listVerdict formVerdict u16At u32At least within place _⊕_ spanned free rowWeight columnWeight jointWeight
-    checkJoint rowMember columnMember columnDifference stripEntry rowPairFree columnPairFree bit numberOf anyBelow countBelow firstOf pastOf
+    checkJoint rowMember columnMember columnDifference stripEntry rowPairFree columnPairFree bit numberOf anyBelow countBelow few firstOf pastOf
     pick xorSum rowBytes sheetBytes byteOf cellOf usedBits unusedAt firstUnused tabulate byteFrom bytesOf cellNumber weightSum rowSyndrome
     columnSyndrome boxCells boxNumber patterns lefts trials trialCells tried hasBurst burstFor checkNumber checkAt checkIndex runsDown dataColumn dataOrder
     dataSize rank dataCell fill belongs written dataOf change mended cellCount rowTouched columnTouched reportOf lengthVerdict unusedVerdict

@@ -1,7 +1,7 @@
 -- The small plans of document 01, as bytes.
 --
 --   le16, le32     a number in two and in four bytes, low byte first
---   planBytes      a plan from its numbers, its two tables and its check list, with the offsets and length by the rule
+--   planBytes      a plan from its numbers, its two tables and its check list, with the offsets and length by the rule and t = 0
 --   S, T           the plans S and T, here with any tables and check list
 use Prim.Native.Nat.{ℕ, _+_, _*_, _/_, _%_}
 use mathlib.Core.List.{List, [], _∷_, _++_}
@@ -21,10 +21,10 @@ encoded f (x ∷ xs) = f x ++ encoded f xs
 unfoldable pub planBytes : (n1 n2 b1 b2 rv rh : ℕ) → (rows columns checks : List ℕ) → List ℕ
 unfolding le16 le32 encoded
 planBytes n1 n2 b1 b2 rv rh rows columns checks =
-    let start = 20 + 4 * length rows in
+    let start = 22 + 4 * length rows in
     let list = start + 4 * length columns in
     let end = list + 2 * length checks in
-    encoded le16 (n1 ∷ n2 ∷ b1 ∷ b2 ∷ rv ∷ rh ∷ 20 ∷ start ∷ list ∷ end ∷ [])
+    encoded le16 (n1 ∷ n2 ∷ b1 ∷ b2 ∷ rv ∷ rh ∷ 22 ∷ start ∷ list ∷ end ∷ 0 ∷ [])
     ++ (encoded le32 rows ++ (encoded le32 columns ++ encoded le16 checks))
 
 -- S: 3 rows, 3 columns, bursts of one cell

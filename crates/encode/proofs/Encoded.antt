@@ -172,6 +172,7 @@ module _ (h : Header) (v w row column : ℕ → ℕ) where
         columns = two (h .columns) (omega arith) i;
         checks = two (h .checks) (omega arith) i;
         total = two (h .total) (omega (arith, s .rv-most, s .rh-most)) i;
+        t = two (h .t) (omega (arith, s .t-most)) i;
       }
 
 -- ---- equal entries and pairs

@@ -6,7 +6,7 @@
 --   table-none, list-none                      no entry, no pair
 --   table-next, list-next                      one entry more, one pair more
 --   table-equal, list-equal                    equal entries have equal bytes
---   header-written                             the ten numbers of a header, two at a time
+--   header-written                             the eleven numbers of a header, two at a time, and t last
 --   table-read, list-row, list-column          entry k and pair k, read back from the middle of a list of bytes
 --
 -- Assumes nothing.
@@ -163,16 +163,18 @@ pub header-length : (h : Header) → length (headerBytes h) ≡ headerLength
 unfolding headerBytes lowBytes
 header-length h = refl
 
-pub header-written : (h : Header) (s s1 s2 s3 s4 s5 : List ℕ) → s1 ≡ overwritten s 0 (lowBytes 2 (h .n1) ++ lowBytes 2 (h .n2))
+pub header-written : (h : Header) (s s1 s2 s3 s4 s5 s6 : List ℕ) → s1 ≡ overwritten s 0 (lowBytes 2 (h .n1) ++ lowBytes 2 (h .n2))
     → s2 ≡ overwritten s1 4 (lowBytes 2 (h .b1) ++ lowBytes 2 (h .b2)) → s3 ≡ overwritten s2 8 (lowBytes 2 (h .rv) ++ lowBytes 2 (h .rh))
     → s4 ≡ overwritten s3 12 (lowBytes 2 (h .rows) ++ lowBytes 2 (h .columns)) → s5 ≡ overwritten s4 16 (lowBytes 2 (h .checks) ++ lowBytes 2 (h .total))
-    → s5 ≡ overwritten s 0 (headerBytes h)
+    → s6 ≡ overwritten s5 20 (lowBytes 2 (h .t)) → s6 ≡ overwritten s 0 (headerBytes h)
 unfolding headerBytes lowBytes overwritten
-header-written h s s1 s2 s3 s4 s5 e1 e2 e3 e4 e5 =
-    e5
+header-written h s s1 s2 s3 s4 s5 s6 e1 e2 e3 e4 e5 e6 =
+    e6
+    ∙ ap (λ (t : List ℕ). overwritten t 20 (lowBytes 2 (h .t)))
+    (e5
     ∙ ap (λ (t : List ℕ). overwritten t 16 (lowBytes 2 (h .checks) ++ lowBytes 2 (h .total)))
     (e4
     ∙ ap (λ (t : List ℕ). overwritten t 12 (lowBytes 2 (h .rows) ++ lowBytes 2 (h .columns)))
     (e3
     ∙ ap (λ (t : List ℕ). overwritten t 8 (lowBytes 2 (h .rv) ++ lowBytes 2 (h .rh)))
-    (e2 ∙ ap (λ (t : List ℕ). overwritten t 4 (lowBytes 2 (h .b1) ++ lowBytes 2 (h .b2))) e1)))
+    (e2 ∙ ap (λ (t : List ℕ). overwritten t 4 (lowBytes 2 (h .b1) ++ lowBytes 2 (h .b2))) e1))))

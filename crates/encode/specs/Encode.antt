@@ -1,6 +1,6 @@
 -- The bytes of a plan (document 01, "Plan bytes"): numbers of 16 and 32 bits, low byte first.
 --
---   headerBytes h              the ten numbers of a header, 16 bits each
+--   headerBytes h              the eleven numbers of a header, 16 bits each
 --   tableBytes n f             n entries of a table, 32 bits each
 --   listBytes n row column     n pairs of the check list, row then column, 16 bits each
 --   planBytes h c              the header h, and the row table, the column table and the check list of the code c
@@ -22,7 +22,8 @@ headerBytes h =
     ++ (lowBytes 2 (h .rows)
     ++ (lowBytes 2 (h .columns)
     ++ (lowBytes 2 (h .checks)
-    ++ lowBytes 2 (h .total)))))))))
+    ++ (lowBytes 2 (h .total)
+    ++ lowBytes 2 (h .t))))))))))
 
 unfoldable pub tableBytes : ℕ → (ℕ → ℕ) → List ℕ
 tableBytes n f = joined n (λ k. lowBytes 4 (f k))

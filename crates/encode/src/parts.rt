@@ -20,7 +20,7 @@ fn put_pair(first: usize, second: usize, at: usize, plan: &mut [u8])
     put_u16(plan, at + 2, second);
 }
 
-// The ten numbers of the header, at the front.
+// The eleven numbers of the header, at the front.
 pub(crate) fn put_header(h: Header, plan: &mut [u8])
     requires { ⌜ headerLength ≤ length (now plan) ⌝ }
     ensures { λ _. ⌜ now (plan .exit) ≡ overwritten (now (plan .entry)) 0 (headerBytes h) ⌝ }
@@ -30,6 +30,7 @@ pub(crate) fn put_header(h: Header, plan: &mut [u8])
     put_pair(h.rv, h.rh, 8, plan);
     put_pair(h.rows, h.columns, 12, plan);
     put_pair(h.checks, h.total, 16, plan);
+    put_u16(plan, 20, h.t);
 }
 
 // The first words of a table.

@@ -3,9 +3,11 @@
 --   count-equal, count-none, count-or, count-single, count-not, count-le    counts of related predicates
 --   count-split, count-run   counts over a + b places, and of a predicate that holds in a run only
 --   count-turned     the last m of n places counted downward, and those before them
+--   count-more       what holds more often counts more
 --   count-rise       counts rise past a place at which p holds
 --   select n p d     the place below n at which p holds and which has d such places before it
 --   select-count     the place with number (countBelow t p) is t
+--   few-any, few-most, most-few, few-less   what few says where t is 0 and where it is not; less than a few are few
 --   select-below, select-holds, select-number     for d below the count: where the place stands, that p holds, its number
 --
 -- Assumes nothing.
@@ -15,10 +17,10 @@ use Prim.Native.Nat.{ℕ, zero, suc, _+_, _-_, _≤_, _<_}
 use native.Mathlib.Nat.{lt-suc-self, add-zero, add-suc, add-assoc}
 use native.Mathlib.Decide.{ℕ-discrete, decLt}
 use native.Mathlib.Omega.{arith}
-use lib.Dec.{eqb}
-use borrow.Author.Tests.{eq-eqb, ne-eqb}
-use Rattle.finite.specs.Search.{countBelow, least}
-use Rattle.finite.proofs.Truth.{Truth, is-true, is-false, true-or-false, and-both}
+use lib.Dec.{eqb, leb}
+use borrow.Author.Tests.{eqb-true, eq-eqb, ne-eqb, leb-true, le-leb}
+use Rattle.finite.specs.Search.{countBelow, few, least}
+use Rattle.finite.proofs.Truth.{Truth, is-true, is-false, true-or-false, and-both, or-left, or-right, or-cases, clash}
 use Rattle.finite.proofs.Search.{least-is}
 
 pub count-equal : (n : ℕ) (p q : ℕ → Bool) → ((k : ℕ) → k < n → p k ≡ q k) → countBelow n p ≡ countBelow n q
@@ -106,6 +108,41 @@ count-run a m p from to (suc n) = go (p n) refl (count-run a m p from to n)
         let t : n < a + m = to n e in
         omega arith
     go false e ih = omega arith
+
+pub count-more : (n : ℕ) (p q : ℕ → Bool) → ((k : ℕ) → k < n → p k ≡ true → q k ≡ true) → countBelow n p ≤ countBelow n q
+unfolding countBelow
+count-more zero p q h = omega arith
+count-more (suc n) p q h = go (p n) (q n) (h n (lt-suc-self n)) (count-more n p q (λ k l. h k (omega arith)))
+  where
+    go : (a b : Bool) → (a ≡ true → b ≡ true) → countBelow n p ≤ countBelow n q → countBelow n p + cond a 1 0 ≤ countBelow n q + cond b 1 0
+    go true true f l = omega arith
+    go true false f l = clash (f refl) refl
+    go false true f l = omega arith
+    go false false f l = omega arith
+
+-- ---- few
+
+pub few-any : (t n : ℕ) → t ≡ 0 → few t n ≡ true
+unfolding few
+few-any t n e = or-left (eqb t 0) (leb n t) (eq-eqb t 0 e)
+
+pub most-few : (t n : ℕ) → n ≤ t → few t n ≡ true
+unfolding few
+most-few t n l = or-right (eqb t 0) (leb n t) (le-leb n t l)
+
+pub few-most : (t n : ℕ) → 1 ≤ t → few t n ≡ true → n ≤ t
+unfolding few
+few-most t n l f = or-cases (eqb t 0) (leb n t) f (λ e. let z : t ≡ 0 = eqb-true t 0 e in absurd (omega arith)) (λ e. leb-true n t e)
+
+pub few-when : (t n : ℕ) → (1 ≤ t → n ≤ t) → few t n ≡ true
+few-when t n h = go (ℕ-discrete t 0)
+  where
+    go : Dec (t ≡ 0) → few t n ≡ true
+    go (yes e) = few-any t n e
+    go (no e) = most-few t n (h (omega arith))
+
+pub few-less : (t n m : ℕ) → n ≤ m → few t m ≡ true → few t n ≡ true
+few-less t n m l f = few-when t n (λ u. let w : m ≤ t = few-most t m u f in omega arith)
 
 -- counts never fall, and rise past a place at which p holds
 pub count-rise : (m n : ℕ) (p : ℕ → Bool) → p m ≡ true → m < n → countBelow m p < countBelow n p

@@ -4,11 +4,13 @@
 --   and-true, and-false, and-comm   a conjunction with a known second part; its parts exchanged
 --   or-cases, or-left, or-right     a disjunction is true exactly where one part is
 --   or-false                        and false where both are
+--   or-none, or-assoc               a disjunction with false; three parts in one
 --   same-truth                      two values are equal if each is true where the other is
 --   both, either                    a true conjunction and a true disjunction taken apart
 --   true-or-false                   every value is one or the other, with the equation
 --   clash, never                    no value is both
 --   xor-equal, xor-none, xor-dark, xor-light, xor-self, xor-back, xor-comm, xor-assoc   differences of truth values
+--   eqb-comm                                  a test of two numbers, exchanged
 --   both-equal, equal-both                    two equations as one test
 --   within-from, within-to, in-within         the numbers of a run
 --
@@ -96,6 +98,17 @@ pub same-truth : (a b : Bool) → (a ≡ true → b ≡ true) → (b ≡ true �
 same-truth true b f g = sym (f refl)
 same-truth false true f g = g refl
 same-truth false false f g = refl
+
+pub or-none : (a : Bool) → (a || false) ≡ a
+or-none true = refl
+or-none false = refl
+
+pub or-assoc : (a b c : Bool) → ((a || b) || c) ≡ (a || (b || c))
+or-assoc true b c = refl
+or-assoc false b c = refl
+
+pub eqb-comm : (x y : ℕ) → eqb x y ≡ eqb y x
+eqb-comm x y = same-truth (eqb x y) (eqb y x) (λ e. eq-eqb y x (sym (eqb-true x y e))) (λ e. eq-eqb x y (sym (eqb-true y x e)))
 
 pub xor-equal : (a b : Bool) → xor a b ≡ false → a ≡ b
 unfolding xor

@@ -5,6 +5,7 @@
 --   within a m x  x is one of the m numbers from a on
 --   anyBelow n p  p holds at some k below n
 --   countBelow n p  at how many k below n p holds
+--   few t n       n is at most t; where t is 0, any n is (02 m)
 --   least n p     the first k below n at which p holds, or n where there is none
 --   firstOf n p   the first k below n at which p holds, or 0 where there is none
 --   pastOf n p    one more than the last k below n at which p holds, or 0 where there is none
@@ -30,6 +31,9 @@ anyBelow (suc n) p = anyBelow n p || p n
 unfoldable pub countBelow : ℕ → (ℕ → Bool) → ℕ
 countBelow zero p = 0
 countBelow (suc n) p = countBelow n p + cond (p n) 1 0
+
+unfoldable pub few : ℕ → ℕ → Bool
+few t n = eqb t 0 || leb n t
 
 unfoldable pub least : ℕ → (ℕ → Bool) → ℕ
 least zero p = 0

@@ -13,6 +13,7 @@ pub mod Triangle
 pub mod Basis
 pub mod Span
 pub mod Dimension
+pub mod Sparse
 pub mod Runs
 pub mod Combination
 pub mod Combined

@@ -2,6 +2,7 @@
 pub mod Xor
 pub mod Sum
 pub mod Independence
+pub mod Sparse
 pub mod Vectors
 pub mod Basis
 pub mod Solver

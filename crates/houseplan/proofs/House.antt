@@ -15,7 +15,7 @@ use lib.Dec.{eqb}
 use lib.ListN.{length, getD}
 use Rattle.plan.specs.Verdict.{accepted, refusal, verdictIf, _orElse_}
 use Rattle.plan.specs.Header.{ruled}
-use Rattle.plan.specs.Form.{badBurst, badSheet, badWidths, badOffsets, sizesVerdict, offsetsVerdict, fieldsVerdict}
+use Rattle.plan.specs.Form.{badBurst, badSheet, badWidths, badCells, badOffsets, sizesVerdict, offsetsVerdict, fieldsVerdict}
 use Rattle.plan.specs.Bytes.{codeOf}
 use Rattle.maker.specs.Make.{badPolynomial, polynomialsVerdict, givenChecks, made, make}
 use Rattle.maker.proofs.Outcomes.{make-given}
@@ -25,7 +25,7 @@ use Rattle.house.proofs.Table.{house-entry}
 use Rattle.houseplan.specs.HousePlan.{houseWith, houseParameters, houseBytes}
 
 pub house-given : (size : ℕ) → givenChecks houseParameters size ≡ verdictIf (not (eqb size houseBytes)) (refusal 5 0 0)
-unfolding givenChecks fieldsVerdict sizesVerdict badBurst badSheet badWidths offsetsVerdict badOffsets polynomialsVerdict badPolynomial ruled _orElse_
+unfolding givenChecks fieldsVerdict sizesVerdict badBurst badSheet badWidths badCells offsetsVerdict badOffsets polynomialsVerdict badPolynomial ruled _orElse_
 house-given size = go (eqb size houseBytes)
   where
     go : (right : Bool) → (verdictIf (not right) (refusal 5 0 0) orElse accepted) ≡ verdictIf (not right) (refusal 5 0 0)

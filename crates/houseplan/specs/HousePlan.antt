@@ -9,10 +9,10 @@ use Rattle.maker.specs.declared.parameters.Parameters.{Parameters}
 use Rattle.house.specs.House.{houseDegree, houseLow}
 
 abbrev pub houseWith : ℕ → ℕ → Parameters
-houseWith rv v = record { n1 = 512; n2 = 698; b1 = 3; b2 = 3; rv = rv; vlow = v; rh = houseDegree; hlow = houseLow }
+houseWith rv v = record { n1 = 512; n2 = 698; b1 = 3; b2 = 3; t = 0; rv = rv; vlow = v; rh = houseDegree; hlow = houseLow }
 
 abbrev pub houseParameters : Parameters
 houseParameters = houseWith 22 237325
 
 abbrev pub houseBytes : ℕ
-houseBytes = 14684
+houseBytes = 14686

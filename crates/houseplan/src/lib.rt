@@ -21,6 +21,7 @@ fn parameters() -> Parameters
         n2: 698,
         b1: 3,
         b2: 3,
+        t: 0,
         rv: 22,
         vlow: 0x39f0d,
         rh: DEGREE,

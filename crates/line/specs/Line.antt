@@ -23,7 +23,7 @@ use Rattle.mend.specs.declared.report.Report.{Report}
 use Rattle.reader.specs.Read.{Outcome, readOutcome}
 use Rattle.text.specs.Text.{space, newline, field, hexText}
 
--- the first 20 bytes, or as many as the length field says if that is more, or all there is
+-- the first 22 bytes, or as many as the length field says if that is more, or all there is
 unfoldable pub planSize : List ℕ → ℕ
 planSize input = min (length input) (max headerLength (u16At input 18))
 

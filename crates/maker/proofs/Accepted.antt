@@ -28,7 +28,7 @@ use Rattle.plan.specs.Bytes.{rowEntryAt, columnEntryAt, checkRowAt, checkColumn
 use Rattle.plan.proofs.Sequence.{else-zero, if-zero}
 use Rattle.plan.proofs.Framing.{position-fits}
 use Rattle.accept.specs.Verdict.{rowsVerdict, columnsVerdict, Accepted}
-use Rattle.accept.proofs.Acceptance.{rows-hold, columns-hold}
+use Rattle.accept.proofs.Acceptance.{all-hold}
 use Rattle.accept.proofs.Tables.{table-condition}
 use Rattle.encode.specs.Encode.{planBytes}
 use Rattle.encode.proofs.Encoded.{placed, encoded-length, encoded-header, encoded-row, encoded-column, encoded-check-row, encoded-check-column}
@@ -112,6 +112,7 @@ module _ (h : Header) (p : Small h) (r : h ≡ ruled h) (v w : ℕ → ℕ) (v-b
     b1-most = p .b1-most;
     b2-pos = p .b2-pos;
     b2-most = p .b2-most;
+    t-most = p .t-most;
     n1-least = p .n1-least;
     n1-most = p .n1-most;
     n2-least = p .n2-least;
@@ -162,11 +163,8 @@ module _ (h : Header) (p : Small h) (r : h ≡ ruled h) (v w : ℕ → ℕ) (v-b
       rw header-read (record {
         framed = framed;
         formed = formed;
-        conditions = record {
-          rows = rows-hold c formed (ap (λ (x : Verdict). x .number) rows-same ∙ rows);
-          columns = columns-hold c formed (ap (λ (x : Verdict). x .number) columns-same ∙ columns);
-          checks = checks;
-        };
+        conditions =
+            all-hold c formed (ap (λ (x : Verdict). x .number) rows-same ∙ rows) (ap (λ (x : Verdict). x .number) columns-same ∙ columns) checks;
       })
 
 -- where check 16 gives 0, rv + rh cells are taken

@@ -1,7 +1,7 @@
 -- What the checks of the numbers leave true.
 --
---   sizes-given   checks 2 to 4 look at the six numbers alone
---   small-numbers the six numbers are as small as the header that is made from them
+--   sizes-given   checks 2 to 4 and 23 look at the seven numbers alone
+--   small-numbers the seven numbers are as small as the header that is made from them
 --   ruled-twice   the places of the header are by the rule
 --   Good, given-good   where checks 2, 3, 4, 5 and 15 pass: small numbers, the length by the rule, and two good polynomials
 --   sizes-good    where checks 2 to 4 pass, the numbers are small
@@ -16,7 +16,7 @@ use lib.Dec.{eqb, leb}
 use Rattle.finite.proofs.Truth.{or-false}
 use Rattle.plan.specs.declared.verdict.Verdict.{Verdict}
 use Rattle.plan.specs.Header.{headerLength, columnsStart, checksStart, planLength, ruled, Small}
-use Rattle.plan.specs.Form.{badBurst, badSheet, badWidths, badOffsets, sizesVerdict, offsetsVerdict, fieldsVerdict}
+use Rattle.plan.specs.Form.{badBurst, badSheet, badWidths, badCells, badOffsets, sizesVerdict, offsetsVerdict, fieldsVerdict}
 use Rattle.plan.proofs.Sequence.{else-first, else-second, else-zero, if-zero, same-zero, same-other}
 use Rattle.plan.proofs.Framing.{sizes-small, small-sizes}
 use Rattle.maker.specs.declared.parameters.Parameters.{Parameters}
@@ -24,7 +24,7 @@ use Rattle.maker.specs.Make.{numbersOf, headerFor, badPolynomial, polyno
 use Rattle.maker.specs.Steps.{Degrees}
 
 pub sizes-given : (g : Parameters) → sizesVerdict (headerFor g) ≡ sizesVerdict (numbersOf g)
-unfolding ruled sizesVerdict badBurst badSheet badWidths
+unfolding ruled sizesVerdict badBurst badSheet badWidths badCells
 sizes-given g = refl
 
 pub ruled-twice : (g : Parameters) → headerFor g ≡ ruled (headerFor g)

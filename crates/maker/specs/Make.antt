@@ -1,6 +1,6 @@
 -- Making a plan (document 02, request a): "plans for beds of their own, made from two binary polynomials".
 --
---   numbersOf g           the six numbers that are given, as a header with its places still 0
+--   numbersOf g           the seven numbers of a header that are given, as a header with its places still 0
 --   headerFor g           the header of the made plan: these numbers, and the places and the length by the rule
 --   rowTable, columnTable the two tables: entry k is z to the power k modulo that polynomial
 --   takenCells h v w      the check cells: taken in sheet order, each if its joint entry is no exclusive-or of those taken; rv + rh at most
@@ -8,8 +8,8 @@
 --   badPolynomial d low   a polynomial has constant term 0 or a coefficient at or above its degree
 --   polynomialsVerdict    check 15, of both polynomials
 --   takenVerdict          check 16: fewer than rv + rh cells could be taken
---   givenChecks           checks 2, 3, 4, 5 and 15, which look at no table
---   makeChecks            checks 2, 3, 4, 5, 15, 8, 9, 16, in this order
+--   givenChecks           checks 2, 3, 4, 23, 5 and 15, which look at no table
+--   makeChecks            checks 2, 3, 4, 23, 5, 15, 8, 9, 16, in this order
 --   Made, made            what a call leaves: its answer and the bytes of the plan
 --   outcome v new old     the answer v, with the new bytes where it is 0 and else with the old
 --   make g plan           the outcome of making a plan from g into the buffer plan
@@ -44,6 +44,7 @@ numbersOf g = record {
   columns = 0;
   checks = 0;
   total = 0;
+  t = g .t;
 }
 
 abbrev pub headerFor : Parameters → Header

@@ -9,20 +9,21 @@ use plan::header::ruled;
 use plan::verdict::Verdict;
 use plan::verdict::refuse_if;
 
-// The sizes of the sheet and of a burst; and of each table the degree of its polynomial, rv or rh, and the coefficients below that,
-// digit i for the power i.
+// The sizes of the sheet and of a burst, and the most cells of a burst, or 0 for any; and of each table the degree of its polynomial, rv or rh,
+// and the coefficients below that, digit i for the power i.
 pub struct Parameters {
     pub n1: usize,
     pub n2: usize,
     pub b1: usize,
     pub b2: usize,
+    pub t: usize,
     pub rv: usize,
     pub vlow: u64,
     pub rh: usize,
     pub hlow: u64,
 }
 
-// The six numbers of a header, its places still 0.
+// The seven numbers of a header, its places still 0.
 pub(crate) fn numbers(g: Parameters) -> Header
     ensures { λ r. ⌜ r ≡ numbersOf g ⌝ }
 {
@@ -37,6 +38,7 @@ pub(crate) fn numbers(g: Parameters) -> Header
         columns: 0,
         checks: 0,
         total: 0,
+        t: g.t,
     }
 }
 
@@ -48,7 +50,7 @@ fn bad_polynomial(degree: usize, low: u64) -> bool
     (low % 2 == 0) | ((1u64 << degree) <= low)
 }
 
-// Checks 2, 3, 4, 5 and 15, of a plan buffer of size bytes.
+// Checks 2, 3, 4, 23, 5 and 15, of a plan buffer of size bytes.
 pub fn given_checks(g: Parameters, size: usize) -> Verdict
     ensures { λ r. ⌜ r ≡ givenChecks g size ⌝ }
 {

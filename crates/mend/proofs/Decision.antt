@@ -18,7 +18,8 @@ use borrow.Author.Tests.{eqb-true, eq-eqb, ltb-true, lt-ltb}
 use lib.Dec.{ltb}
 use Rattle.gf2.specs.Sum.{chosenSum}
 use Rattle.gf2.proofs.Sum.{sum-zero}
-use Rattle.finite.specs.Search.{bit, least, numberOf}
+use Rattle.finite.specs.Search.{bit, least, numberOf, countBelow, few}
+use Rattle.finite.proofs.Count.{count-none, few-less, most-few}
 use Rattle.finite.proofs.Truth.{never, not-true}
 use Rattle.finite.proofs.Search.{least-found, least-most}
 use Rattle.finite.proofs.Digits.{bit-none, number-below}
@@ -41,12 +42,15 @@ use Rattle.mend.specs.Search.{afterFit, searchFrom}
 use Rattle.plan.specs.Accepted.{AcceptedWith}
 use Rattle.mend.specs.Found.{IsBurst, BurstOrNone, FoundFor}
 use Rattle.mend.proofs.First.{found-for}
-use Rattle.mend.proofs.Window.{fit-sum, fit-none, inWindow, in-window, window-sum, pattern-sum}
+use Rattle.mend.proofs.Window.{fit-sum, fit-none, inWindow, in-window, window-sum, window-count, pattern-sum, pattern-less}
 use Rattle.mend.proofs.Laying.{laidCells, laid-entries, laid-sum, laid-number}
 
 module _ (c : Code) (F : Formed c) (K : Conditions c) (v s : ℕ) where
   -- pattern x of the window at row i has the V sum
-  module _ (i x : ℕ) (rows : i + c .b1 ≤ c .n1) (q : windowSum c i (bit x) ≡ v) where
+  module _ (i x : ℕ) (rows : i + c .b1 ≤ c .n1) (u : few (c .t) (countBelow (c .b1 * c .b2) (bit x)) ≡ true) (q : windowSum c i (bit x) ≡ v) where
+    sparse : few (c .t) (countBelow (c .n1 * c .b2) (inWindow c i (bit x))) ≡ true
+    sparse = few-less (c .t) _ _ (window-count c F i rows (bit x)) u
+
     chosen : chosenSum (c .n1 * c .b2) (inWindow c i (bit x)) (c .rowEntry) ≡ v
     chosen = window-sum c F i rows (bit x) ∙ q
 
@@ -54,7 +58,7 @@ module _ (c : Code) (F : Formed c) (K : Conditions c) (v s : ℕ) where
     unfolding laidCells
     laid-found a columns e =
         rw chosen at
-        (strip-found c F i (inWindow c i (bit x)) (in-window c F i rows (bit x)) rows a s columns (laid-sum c F i x rows a columns ∙ e))
+        (strip-found c F i (inWindow c i (bit x)) (in-window c F i rows (bit x)) sparse rows a s columns (laid-sum c F i x rows a columns ∙ e))
 
     pub strip-burst : (a : ℕ) → a + c .b2 ≤ c .n2 → laidSum (c .b1) (c .b2) (c .columnEntry) i a x ≡ s
         → IsBurst c v s i a (boxPattern (c .b1) (c .b2) a x)
@@ -73,12 +77,15 @@ module _ (c : Code) (F : Formed c) (K : Conditions c) (v s : ℕ) where
     strip-none none =
         not-true (hasBurst c v s)
         (λ t.
-        let w = found-strip c F i (inWindow c i (bit x)) (in-window c F i rows (bit x)) rows (separated c F K) s (rw chosen t) in
+        let w = found-strip c F i (inWindow c i (bit x)) (in-window c F i rows (bit x)) sparse rows (separated c F K) s (rw chosen t) in
         none (w .0) (w .1) (sym (laid-sum c F i x rows (w .0) (w .1)) ∙ w .2))
 
-  pub window-none : ((i : ℕ) → i + c .b1 ≤ c .n1 → (m : ℕ → Bool) → windowSum c i m ≡ v → ⊥) → hasBurst c v s ≡ false
+  pub window-none : ((i : ℕ) → i + c .b1 ≤ c .n1 → (m : ℕ → Bool) → few (c .t) (countBelow (c .b1 * c .b2) m) ≡ true → windowSum c i m ≡ v → ⊥)
+      → hasBurst c v s ≡ false
   window-none none =
-      none-found c F v s (λ top p rows w e. none top rows (λ k. p (top * c .b2 + k)) (sym (pattern-sum c F top rows p w) ∙ e))
+      none-found c F v s
+      (λ top p rows w u e. none top rows (λ k. p (top * c .b2 + k)) (few-less (c .t) _ _ (pattern-less c F top rows p) u)
+      (sym (pattern-sum c F top rows p w) ∙ e))
 
 -- ---- a V sum of 0
 
@@ -91,6 +98,9 @@ module _ (c : Code) (F : Formed c) (K : Conditions c) where
   no-sum : windowSum c 0 (bit 0) ≡ 0
   unfolding windowSum
   no-sum = sum-zero (c .b1 * c .b2) _ (λ k l. unpicked (bit 0 k) (entryAt c 0 k) (bit-none k))
+
+  none-few : few (c .t) (countBelow (c .b1 * c .b2) (bit 0)) ≡ true
+  none-few = most-few (c .t) (countBelow (c .b1 * c .b2) (bit 0)) (omega (arith, count-none (c .b1 * c .b2) (bit 0) (λ k l. bit-none k)))
 
   no-laid : (a : ℕ) → laidSum (c .b1) (c .b2) (c .columnEntry) 0 a 0 ≡ 0
   unfolding laidSum laidLine laidRow laidCell
@@ -106,16 +116,17 @@ module _ (c : Code) (F : Formed c) (K : Conditions c) where
   pub zero-burst : IsBurst c 0 0 0 0 0
   zero-burst =
       let on : 0 + c .b2 ≤ c .n2 = (let l = F .n2-least in omega arith) in
-      rw no-pattern at (strip-burst c F K 0 0 0 0 first-window no-sum 0 on (no-laid 0))
+      rw no-pattern at (strip-burst c F K 0 0 0 0 first-window none-few no-sum 0 on (no-laid 0))
 
   pub zero-none : (s : ℕ) → (s ≡ 0 → ⊥) → hasBurst c 0 s ≡ false
-  zero-none s ne = strip-none c F K 0 s 0 0 first-window no-sum (λ a columns e. ne (sym e ∙ no-laid a))
+  zero-none s ne = strip-none c F K 0 s 0 0 first-window none-few no-sum (λ a columns e. ne (sym e ∙ no-laid a))
 
 -- ---- from the strips to the answer
 
 -- on the strips, the unpacked table is the plan's: so what the strips answer is right for the two sums
 pub strips-decide : (s : List ℕ) (h : Header) (words : List ℕ) → AcceptedWith s h → Unpacked s h words
-    → (v t i x : ℕ) → i + h .b1 ≤ h .n1 → windowSum (codeWith s h) i (bit x) ≡ v
+    → (v t i x : ℕ) → i + h .b1 ≤ h .n1
+    → (few (h .t) (countBelow (h .b1 * h .b2) (bit x)) ≡ true) × (windowSum (codeWith s h) i (bit x) ≡ v)
     → FoundFor (codeWith s h) v t (onStrips h (wordAt words) i x t)
 unfolding onStrips fitsOn
 strips-decide s h words U T v t i x rows q = found-for (codeWith s h) v t (onStrips h (wordAt words) i x t) (go (ltb a n) refl)
@@ -136,10 +147,10 @@ strips-decide s h words U T v t i x rows q = found-for (codeWith s h) v t (onStr
     go true e =
         let l : a < n = ltb-true a n e in
         let on : a + h .b2 ≤ h .n2 = (let w = U .framed .small .n2-least in omega arith) in
-        strip-burst (codeWith s h) (U .formed) (U .conditions) v t i x rows q a on
+        strip-burst (codeWith s h) (U .formed) (U .conditions) v t i x rows (q .0) (q .1) a on
         (sym (same a on) ∙ eqb-true (laidSum (h .b1) (h .b2) (wordAt words) i a x) t (least-found n p l))
     go false e =
-        strip-none (codeWith s h) (U .formed) (U .conditions) v t i x rows q
+        strip-none (codeWith s h) (U .formed) (U .conditions) v t i x rows (q .0) (q .1)
         (λ k on z.
         let m : a ≤ k = least-most n p k (eq-eqb (laidSum (h .b1) (h .b2) (wordAt words) i k x) t (same k on ∙ z)) in
         never (ltb a n) (lt-ltb a n (omega arith)) e)
@@ -149,14 +160,14 @@ strips-decide s h words U T v t i x rows q = found-for (codeWith s h) v t (onStr
 module _ (s : List ℕ) (h : Header) (words : List ℕ) (U : AcceptedWith s h) (T : Unpacked s h words) (v t : ℕ) where
   -- the window at row j has no pattern with the V sum
   abbrev Misses : ℕ → Type 0
-  Misses j = (m : ℕ → Bool) → windowSum (codeWith s h) j m ≡ v → ⊥
+  Misses j = (m : ℕ → Bool) → few (h .t) (countBelow (h .b1 * h .b2) m) ≡ true → windowSum (codeWith s h) j m ≡ v → ⊥
 
   search-rest : (m i : ℕ) → i + m ≡ h .n1 - h .b1 + 1 → ((j : ℕ) → j < i → Misses j)
       → FoundFor (codeWith s h) v t (searchFrom s h (wordAt words) v t i m)
   unfolding searchFrom
   search-rest zero i e none =
       found-for (codeWith s h) v t Nothing
-      (window-none (codeWith s h) (U .formed) (U .conditions) v t (λ j on m q. none j (let l = U .framed .small .n1-least in omega arith) m q))
+      (window-none (codeWith s h) (U .formed) (U .conditions) v t (λ j on m u q. none j (let l = U .framed .small .n1-least in omega arith) m u q))
   search-rest (suc m) i e none = go (firstFit (codeWith s h) i v) refl (λ z. search-rest m (suc i) (omega arith) z)
     where
       go : (f : Fit) → firstFit (codeWith s h) i v ≡ f

@@ -2,6 +2,7 @@
 pub mod Turns
 pub mod Runs
 pub mod Window
+pub mod FewFits
 pub mod Laying
 pub mod First
 pub mod Windows

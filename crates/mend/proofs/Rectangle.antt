@@ -20,11 +20,12 @@ use Rattle.finite.proofs.Count.{count-equal, count-none, count-rise}
 use Rattle.finite.proofs.Digits.{number-equal}
 use Rattle.boxcode.specs.Code.{Code, Formed}
 use Rattle.boxcode.specs.Syndrome.{Cells}
-use Rattle.boxcode.specs.Burst.{Inside, boxCells, boxNumber, burstFor}
-use Rattle.boxcode.specs.Reader.{cellCount, rowTouched, columnTouched, reportOf, noReport}
+use Rattle.boxcode.specs.Burst.{Inside, cellCount, boxCells, boxNumber, burstFor}
+use Rattle.boxcode.specs.Reader.{rowTouched, columnTouched, reportOf, noReport}
 use Rattle.boxcode.proofs.Trial.{box-inside}
 use Rattle.boxcode.proofs.Trial as boxed
-use Rattle.boxcode.proofs.Report.{run-on, box-place, cells-flat, cells-none, cells-some, report-cells, report-none}
+use Rattle.boxcode.proofs.Cells.{cells-flat, cells-none, cells-some}
+use Rattle.boxcode.proofs.Report.{run-on, box-place, report-cells, report-none}
 use Rattle.mend.specs.Found.{IsBurst}
 use Rattle.mend.specs.Report.{partDigit, partNumber, boxReport, reportAs, anyOf, lineHas}
 use Rattle.mend.proofs.Runs.{Run, run-any, run-count, run-first, run-past}
@@ -88,6 +89,11 @@ module _ (n m top left b1 b2 x : ℕ) (rows : top + b1 ≤ n) (columns : left + 
       (cells-none (n - top - b1) m (λ r. e (top + (b1 + r)))
       (λ i j li lj. not-true (e (top + (b1 + i)) j) (λ t. let u = inside .row-to (top + (b1 + i)) j t in omega arith))))
       ∙ (let z : 0 + (countBelow (b1 * b2) (bit x) + 0) ≡ countBelow (b1 * b2) (bit x) = omega arith in z)
+
+  -- the number of a pattern's cells is that of its digits
+  pub box-cell-count : cellCount n m (boxCells top left b1 b2 x) ≡ countBelow (b1 * b2) (bit x)
+  unfolding e
+  box-cell-count = box-cells
 
 -- ---- rows and columns of the rectangle
 

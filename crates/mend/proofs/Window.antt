@@ -14,9 +14,9 @@ use mathlib.Core.Path.{_≡_, refl, sym, ap, ap₂, _∙_}
 use mathlib.Core.Bool.{Bool, true, false, cond, _&&_}
 use mathlib.Core.List.{List, [], append-nil}
 use Prim.Native.Nat.{ℕ, _+_, _-_, _*_, _/_, _^_, _≤_, _<_}
-use native.Mathlib.Nat.{add-mul, mul-le-mul, mul-le-mul-right, le-div-iff-mul-le, div-lt-iff-lt-mul, lt-of-lt-of-le}
+use native.Mathlib.Nat.{add-mul, mul-le-mul, mul-le-mul-right, le-div-iff-mul-le, div-lt-iff-lt-mul, lt-of-lt-of-le, lt-trans}
 use native.Mathlib.Omega.{arith}
-use borrow.Author.Tests.{eqb-true, eq-eqb, ltb-true, lt-ltb}
+use borrow.Author.Tests.{eqb-true, eq-eqb, ltb-true, lt-ltb, le-ltb}
 use lib.Dec.{eqb, ltb}
 use lib.ListN.{length, getD, take}
 use lib.Pow.{pow-mono}
@@ -29,26 +29,28 @@ use Rattle.gf2.specs.Solver.{combination, solution}
 use Rattle.gf2.specs.declared.Solution.{Solution}
 use Rattle.gf2.specs.declared.Solution.the-variants.{Combination, Outside}
 use Rattle.gf2.proofs.Basis.{Below}
-use Rattle.gf2.proofs.Sum.{sum-equal}
-use Rattle.gf2.proofs.Independence.{chosen-spanned, independent-free}
+use Rattle.gf2.proofs.Sum.{sum-equal, sum-zero}
+use Rattle.gf2.proofs.Independence.{chosen-spanned, independent-free, pick-false}
 use Rattle.gf2.proofs.Vectors.{listed-length, spanned-listed, free-listed}
 use Rattle.gf2.proofs.Span.{listed-at}
 use Rattle.gf2.proofs.Spans.{spans-turned}
 use Rattle.gf2.proofs.Combination.{combination-listed}
 use Rattle.gf2.proofs.Solving.{solution-found}
-use Rattle.finite.specs.Search.{bit, within, least, numberOf}
-use Rattle.finite.proofs.Search.{least-found, least-most, least-equal}
-use Rattle.finite.proofs.Digits.{number-below, bit-number}
-use Rattle.finite.proofs.Truth.{not-true, same-truth, and-left, or-left, within-from, within-to, in-within}
+use Rattle.finite.specs.Search.{bit, within, least, numberOf, countBelow, few}
+use Rattle.finite.proofs.Search.{least-found, least-most, least-is, least-none, least-equal}
+use Rattle.finite.proofs.Count.{count-equal, few-any, few-less, few-most, most-few}
+use Rattle.finite.proofs.Digits.{number-below, bit-number, bits-equal}
+use Rattle.finite.proofs.Truth.{not-true, same-truth, both, and-left, and-right, and-both, within-from, within-to, in-within}
 use Rattle.boxcode.specs.Code.{Code, Formed}
-use Rattle.boxcode.specs.Condition.{Conditions, rowMember}
+use Rattle.boxcode.specs.Condition.{Conditions}
 use Rattle.boxcode.specs.Burst.{patterns}
-use Rattle.boxcode.proofs.Image.{unpicked}
+use Rattle.boxcode.proofs.Image.{unpicked, count-injects}
 use Rattle.boxcode.proofs.Pattern.{InWindow}
-use Rattle.boxcode.proofs.Condition.{rows-free}
+use Rattle.boxcode.proofs.Condition.{rows-apart}
 use Rattle.mend.specs.declared.fit.Fit.{Fit}
 use Rattle.mend.specs.declared.fit.Fit.the-variants.{Pattern, Nothing}
-use Rattle.mend.specs.Window.{entryAt, windowEntries, Gathered, windowSum, firstFit}
+use Rattle.mend.specs.Window.{entryAt, windowEntries, Gathered, windowSum, makesSum, firstFit, FewPattern, FewFit}
+use Rattle.plan.specs.Table.{wordAt}
 use Rattle.mend.proofs.Runs.{run-sum}
 
 unfoldable pub inWindow : Code → ℕ → (ℕ → Bool) → ℕ → Bool
@@ -73,6 +75,27 @@ gathered c i words few size at = record {
       ext-getD 0 (take n words) (listed n (λ k. true) (entryAt c i)) (l ∙ sym (listed-length n (entryAt c i)))
       (λ k lk. let u : k < n = omega arith in getD-take n words k 0 u ∙ at k u ∙ sym (listed-at n (entryAt c i) k u));
 }
+
+-- a fit of few words that begin an array is one of few entries
+pub few-words : (c : Code) (i t v : ℕ) (words : List ℕ) → Gathered c i words → (r : Fit)
+    → FewFit t (wordAt (take (c .b1 * c .b2) words)) (length (take (c .b1 * c .b2) words)) v r → FewFit t (entryAt c i) (c .b1 * c .b2) v r
+unfolding windowEntries
+few-words c i t v words G = go (length (take n words)) (ap length (G .entries) ∙ listed-length n (entryAt c i))
+  where
+    n : ℕ
+    n = c .b1 * c .b2
+
+    same : (k : ℕ) → k < n → wordAt (take n words) k ≡ entryAt c i k
+    same k l = ap (λ (t : List ℕ). getD t k 0) (G .entries) ∙ listed-at n (entryAt c i) k l
+
+    sums : (m : ℕ → Bool) → chosenSum n m (wordAt (take n words)) ≡ chosenSum n m (entryAt c i)
+    sums m = sum-equal n (λ k. pick (m k) (wordAt (take n words) k)) (λ k. pick (m k) (entryAt c i k)) (λ k l. ap (pick (m k)) (same k l))
+
+    go : (z : ℕ) → z ≡ n → (r : Fit) → FewFit t (wordAt (take n words)) z v r → FewFit t (entryAt c i) n v r
+    go z e (Pattern x) f =
+        let g : FewPattern t (wordAt (take n words)) n v x = rw e at f in
+        record { below = g .below; few = g .few; sum = sym (sums (bit x)) ∙ g .sum }
+    go z e Nothing f = λ m l q. (rw e at f) m l (sums m ∙ q)
 
 module _ (c : Code) (F : Formed c) (i : ℕ) (on : i + c .b1 ≤ c .n1) where
   at-most : c .b1 * c .b2 ≤ 16
@@ -131,21 +154,52 @@ module _ (c : Code) (F : Formed c) (i : ℕ) (on : i + c .b1 ≤ c .n1) where
       let p : 2 ^ c .rv ≤ 2 ^ 64 = pow-mono (let r : c .rv ≤ 64 = (let r = F .rv-most in omega arith) in r) in
       rw (listed-at n (entryAt c i) k lk) (lt-of-lt-of-le b p)
 
+  -- as many of the window's positions are chosen as of its entries, at most; and back
+  pub window-count : (m : ℕ → Bool) → countBelow (c .n1 * c .b2) (inWindow c i m) ≤ countBelow (c .b1 * c .b2) m
+  unfolding inWindow
+  window-count m =
+      count-injects (c .n1 * c .b2) (c .b1 * c .b2) (inWindow c i m) m (λ k. k - i * c .b2)
+      (λ k l t.
+      let w = and-left (within (i * c .b2) (c .b1 * c .b2) k) (m (k - i * c .b2)) t in (
+        omega (arith, within-from (i * c .b2) (c .b1 * c .b2) k w, within-to (i * c .b2) (c .b1 * c .b2) k w),
+        and-right (within (i * c .b2) (c .b1 * c .b2) k) (m (k - i * c .b2)) t,
+      ))
+      (λ k j lk lj tk tj e.
+      let w = and-left (within (i * c .b2) (c .b1 * c .b2) k) (m (k - i * c .b2)) tk in
+      let u = and-left (within (i * c .b2) (c .b1 * c .b2) j) (m (j - i * c .b2)) tj in
+      omega (arith, within-from (i * c .b2) (c .b1 * c .b2) k w, within-from (i * c .b2) (c .b1 * c .b2) j u))
+
+  pub pattern-less : (p : ℕ → Bool) → countBelow (c .b1 * c .b2) (λ k. p (i * c .b2 + k)) ≤ countBelow (c .n1 * c .b2) p
+  pattern-less p =
+      let f : i * c .b2 + c .b1 * c .b2 ≤ c .n1 * c .b2 = rows-fit i (c .b1) (c .n1) (c .b2) on in
+      count-injects (c .b1 * c .b2) (c .n1 * c .b2) (λ k. p (i * c .b2 + k)) p (λ k. i * c .b2 + k) (λ k l t. (omega arith, t))
+      (λ k j lk lj tk tj e. omega arith)
+
+  -- choices of few entries of the window with the same sum are the same
+  pub window-apart : Conditions c → (m m' : ℕ → Bool) → few (c .t) (countBelow (c .b1 * c .b2) m) ≡ true → few (c .t) (countBelow (c .b1 * c .b2) m') ≡ true
+      → windowSum c i m ≡ windowSum c i m' → (k : ℕ) → k < c .b1 * c .b2 → m k ≡ m' k
+  window-apart K m m' u u' s k l =
+      let f : i * c .b2 + c .b1 * c .b2 ≤ c .n1 * c .b2 = rows-fit i (c .b1) (c .n1) (c .b2) on in
+      sym (window-place m k l)
+      ∙ rows-apart c K i i on on (inWindow c i m) (inWindow c i m') (in-window m) (in-window m')
+      (few-less (c .t) _ _ (window-count m) u) (few-less (c .t) _ _ (window-count m') u')
+      (window-sum m ∙ s ∙ sym (window-sum m')) (i * c .b2 + k) (omega arith)
+      ∙ window-place m' k l
+
   -- the window twice: no nonempty choice has the sum 0
-  pub window-free : Conditions c → freeFrom [] (windowEntries c i) ≡ true
+  pub window-free : Conditions c → c .t ≡ 0 → freeFrom [] (windowEntries c i) ≡ true
   unfolding windowEntries
-  window-free K = sym (free-listed (c .b1 * c .b2) (λ k. true) (entryAt c i)) ∙ independent-free (c .b1 * c .b2) (λ k. true) (entryAt c i) independent
+  window-free K any = sym (free-listed (c .b1 * c .b2) (λ k. true) (entryAt c i)) ∙ independent-free (c .b1 * c .b2) (λ k. true) (entryAt c i) independent
     where
       independent : Independent (c .b1 * c .b2) (λ k. true) (entryAt c i)
       independent m w z k l =
-          let f : i * c .b2 + c .b1 * c .b2 ≤ c .n1 * c .b2 = rows-fit i (c .b1) (c .n1) (c .b2) on in
-          sym (window-place m k l)
-          ∙ rows-free c K i i on on (inWindow c i m)
-          (λ j t. unfold rowMember in or-left (within i (c .b1) (j / c .b2)) (within i (c .b1) (j / c .b2)) (in-window m j t))
-          (window-sum m ∙ (unfold windowSum in z)) (i * c .b2 + k) (omega arith)
+          let own : windowSum c i m ≡ 0 = unfold windowSum in z in
+          let none : windowSum c i (λ j. false) ≡ 0 = unfold windowSum in sum-zero (c .b1 * c .b2) (λ j. pick false (entryAt c i j))
+          (λ j lj. pick-false (entryAt c i j)) in
+          window-apart K m (λ j. false) (few-any (c .t) _ any) (few-any (c .t) _ any) (own ∙ sym none) k l
 
   -- the solution for the entries
-  module _ (K : Conditions c) (v : ℕ) (small : v < 2 ^ 64) where
+  module _ (K : Conditions c) (any : c .t ≡ 0) (v : ℕ) (small : v < 2 ^ 64) where
     entries : List ℕ
     entries = windowEntries c i
 
@@ -163,7 +217,12 @@ module _ (c : Code) (F : Formed c) (i : ℕ) (on : i + c .b1 ≤ c .n1) where
 
     answer-found : spans entries v ≡ true → (y : ℕ) × (solution entries v ≡ Combination y) × (y < 2 ^ length entries) × (combination entries y ≡ v)
     unfolding entries
-    answer-found t = solution-found (windowEntries c i) window-few window-below (window-free K) v small t
+    answer-found t = solution-found (windowEntries c i) window-few window-below (window-free K any) v small t
+
+    -- any number of cells is few
+    makes-any : (x : ℕ) → makesSum c i v x ≡ eqb (windowSum c i (bit x)) v
+    unfolding makesSum
+    makes-any x = ap (λ (b : Bool). b && eqb (windowSum c i (bit x)) v) (few-any (c .t) (countBelow (c .b1 * c .b2) (bit x)) any)
 
     -- the first pattern by number, by the solver's vectors
     first-same : least (patterns c) (λ x. eqb (windowSum c i (bit x)) v) ≡ least (2 ^ length entries) (λ y. eqb (combination entries y) v)
@@ -193,39 +252,68 @@ module _ (c : Code) (F : Formed c) (i : ℕ) (on : i + c .b1 ≤ c .n1) where
 
     pub fit-is : fitOf (solution (windowEntries c i) v) ≡ firstFit c i v
     unfolding firstFit solution entries
-    fit-is = rw (first-below, first-same) (go (spans entries v) (least (2 ^ length entries) (λ y. eqb (combination entries y) v)))
+    fit-is =
+        rw (least-equal (patterns c) (makesSum c i v) (λ x. eqb (windowSum c i (bit x)) v) (λ k l. makes-any k), first-below, first-same)
+        (go (spans entries v) (least (2 ^ length entries) (λ y. eqb (combination entries y) v)))
       where
         go : (t : Bool) (y : ℕ) → fitOf (cond t (Combination y) Outside) ≡ cond t (Pattern y) Nothing
         go true y = refl
         go false y = refl
 
+  -- a fit of few entries is the first
+  module _ (K : Conditions c) (pos : 1 ≤ c .t) (v : ℕ) where
+    pub few-fit : (r : Fit) → FewFit (c .t) (entryAt c i) (c .b1 * c .b2) v r → r ≡ firstFit c i v
+    unfolding firstFit makesSum windowSum patterns
+    few-fit (Pattern x) f =
+        let n = c .b1 * c .b2 in
+        let u : few (c .t) (countBelow n (bit x)) ≡ true = most-few (c .t) (countBelow n (bit x)) (f .few) in
+        let e : least (2 ^ n) (makesSum c i v) ≡ x =
+        least-is (2 ^ n) (makesSum c i v) x (f .below) (and-both _ _ u (eq-eqb (windowSum c i (bit x)) v (f .sum)))
+        (λ y ly. not-true (makesSum c i v y) (λ t.
+        let b = both (few (c .t) (countBelow n (bit y))) (eqb (windowSum c i (bit y)) v) t in
+        let q : y ≡ x =
+        bits-equal n y x (lt-trans ly (f .below)) (f .below)
+        (window-apart K (bit y) (bit x) (b .0) u (eqb-true (windowSum c i (bit y)) v (b .1) ∙ sym (f .sum))) in
+        absurd (omega arith))) in
+        rw (e, lt-ltb x (2 ^ n) (f .below))
+    few-fit Nothing f =
+        let n = c .b1 * c .b2 in
+        let e : least (2 ^ n) (makesSum c i v) ≡ 2 ^ n =
+        least-none (2 ^ n) (makesSum c i v) (λ y ly. not-true (makesSum c i v y) (λ t.
+        let b = both (few (c .t) (countBelow n (bit y))) (eqb (windowSum c i (bit y)) v) t in
+        f (bit y) (few-most (c .t) (countBelow n (bit y)) pos (b .0)) (eqb-true (windowSum c i (bit y)) v (b .1)))) in
+        rw (e, le-ltb (2 ^ n) (2 ^ n) (omega arith))
+
 -- ---- what the fit says of the window
 
 module _ (c : Code) (i v : ℕ) where
   abbrev makes : ℕ → Bool
-  makes x = eqb (windowSum c i (bit x)) v
+  makes = makesSum c i v
 
-  pub fit-sum : (x : ℕ) → firstFit c i v ≡ Pattern x → windowSum c i (bit x) ≡ v
-  unfolding firstFit
+  pub fit-sum : (x : ℕ) → firstFit c i v ≡ Pattern x → (few (c .t) (countBelow (c .b1 * c .b2) (bit x)) ≡ true) × (windowSum c i (bit x) ≡ v)
+  unfolding firstFit makesSum
   fit-sum x e = go (ltb (least (patterns c) makes) (patterns c)) refl e
     where
       go : (t : Bool) → ltb (least (patterns c) makes) (patterns c) ≡ t → cond t (Pattern (least (patterns c) makes)) Nothing ≡ Pattern x
-          → windowSum c i (bit x) ≡ v
+          → (few (c .t) (countBelow (c .b1 * c .b2) (bit x)) ≡ true) × (windowSum c i (bit x) ≡ v)
       go true b q =
           let y : least (patterns c) makes ≡ x = cc in
-          eqb-true (windowSum c i (bit x)) v (rw y at (least-found (patterns c) makes (ltb-true (least (patterns c) makes) (patterns c) b)))
+          let m = both (few (c .t) (countBelow (c .b1 * c .b2) (bit x))) (eqb (windowSum c i (bit x)) v)
+          (rw y at (least-found (patterns c) makes (ltb-true (least (patterns c) makes) (patterns c) b))) in
+          (m .0, eqb-true (windowSum c i (bit x)) v (m .1))
       go false b q = let z : _≡_ {A = ℕ} 0 1 = cc in absurd (omega arith)
 
-  pub fit-none : firstFit c i v ≡ Nothing → (m : ℕ → Bool) → windowSum c i m ≡ v → ⊥
-  unfolding firstFit patterns
-  fit-none e m q =
+  pub fit-none : firstFit c i v ≡ Nothing → (m : ℕ → Bool) → few (c .t) (countBelow (c .b1 * c .b2) m) ≡ true → windowSum c i m ≡ v → ⊥
+  unfolding firstFit makesSum patterns
+  fit-none e m u q =
       let n = c .b1 * c .b2 in
       let x = numberOf n m in
       let w : windowSum c i (bit x) ≡ windowSum c i m =
       (unfold windowSum in
       sum-equal n (λ k. pick (bit x k) (entryAt c i k)) (λ k. pick (m k) (entryAt c i k))
       (λ k l. ap (λ (b : Bool). pick b (entryAt c i k)) (bit-number n m k l))) in
-      let l : least (2 ^ n) makes ≤ x = least-most (2 ^ n) makes x (eq-eqb (windowSum c i (bit x)) v (w ∙ q)) in
+      let k : few (c .t) (countBelow n (bit x)) ≡ true = ap (few (c .t)) (count-equal n (bit x) m (bit-number n m)) ∙ u in
+      let l : least (2 ^ n) makes ≤ x = least-most (2 ^ n) makes x (and-both _ _ k (eq-eqb (windowSum c i (bit x)) v (w ∙ q))) in
       let u : x < 2 ^ n = number-below n m in
       let b : ltb (least (2 ^ n) makes) (2 ^ n) ≡ true = lt-ltb (least (2 ^ n) makes) (2 ^ n) (omega arith) in
       let r = rw b at e in

@@ -5,6 +5,7 @@ ghost use Rattle.plan.specs.Header.{Framed};
 ghost use Rattle.plan.specs.Bytes.{codeWith};
 ghost use Rattle.plan.specs.Accepted.{AcceptedWith};
 ghost use Rattle.mend.specs.Window.{Gathered, firstFit};
+use crate::few::few_fit;
 use gf2::Solution;
 use gf2::find_combination;
 use plan::entry::row_entry;
@@ -41,6 +42,9 @@ pub fn window_fit(plan: &[u8], h: Header, i: usize, v: u64) -> Fit
 {
     let words = gather(plan, h, i);
     let size = h.b1 * h.b2;
+    if h.t != 0 {
+        return few_fit(&words[..size], h.t, v);
+    }
     match find_combination(&words[..size], v) {
         Solution::Combination(x) => Fit::Pattern(x),
         Solution::Outside => Fit::Nothing,

@@ -24,7 +24,7 @@ fn digit(x: u64, k: usize) -> usize
 }
 
 // How many of the first n digits of x are 1.
-fn count_digits(x: u64, n: usize) -> usize
+pub fn count_digits(x: u64, n: usize) -> usize
     requires { ⌜ n ≤ 16 ⌝ }
     ensures { λ r. ⌜ r ≡ countBelow n (bit x) ⌝ }
 {

@@ -1,7 +1,7 @@
 -- Checks 1 to 7 pass exactly where the rules of form hold.
 --
 --   at-zero, zero-at       a search that names no place: it ran to its end
---   header-passes          a framed plan passes checks 1 to 5 (framed, in Framing.antt, is the other way)
+--   header-passes          a framed plan passes checks 1 to 5 and 23 (framed, in Framing.antt, is the other way)
 --   entries-below, below-entries   check 6 passes exactly where every entry has its bits
 --   pairs-right, right-pairs       check 7 passes exactly where the check list is on the sheet and rises
 --   formed                 where checks 1 to 7 pass, the code is formed; form-passes is the other way
@@ -167,6 +167,7 @@ rules s F entries pairs =
       rv-most = p .rv-most;
       rh-pos = p .rh-pos;
       rh-most = p .rh-most;
+      t-most = p .t-most;
       row-entries = entries .0;
       column-entries = entries .1;
       check-rows = λ k l. pairs k l .row;

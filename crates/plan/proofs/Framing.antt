@@ -1,9 +1,9 @@
 -- From the checks of the header to the bounds that every later step uses.
 --
---   sizes-small, small-sizes   checks 2 to 4 pass exactly where the header's numbers are in range
+--   sizes-small, small-sizes   checks 2 to 4 and 23 pass exactly where the header's numbers are in range
 --   position-fits   a cell's entry lies in its table
 --   table-room      either table has room in 2,792 words
---   framed    where checks 1 to 5 pass, the plan is framed
+--   framed    where checks 1 to 5 and 23 pass, the plan is framed
 --   framed-code     its code, by the header under a name of its own
 --
 -- Assumes nothing.
@@ -25,7 +25,7 @@ use Rattle.plan.specs.Table.{entriesOf}
 use Rattle.plan.specs.Verdict.{accepted, verdictIf, refusal}
 use Rattle.plan.specs.Header.{headerLength, headerOf, Small, Framed, columnsStart, checksStart, planLength}
 use Rattle.plan.specs.Bytes.{codeWith, codeOf}
-use Rattle.plan.specs.Form.{badBurst, badSheet, badWidths, badOffsets, sizesVerdict, offsetsVerdict, fieldsVerdict, headerVerdict}
+use Rattle.plan.specs.Form.{badBurst, badSheet, badWidths, badCells, badOffsets, sizesVerdict, offsetsVerdict, fieldsVerdict, headerVerdict}
 use Rattle.plan.proofs.Sequence.{else-zero, if-zero, else-if}
 
 -- four tests that all fail
@@ -36,9 +36,9 @@ four a b c d e =
     let z = or-false a b (y .0) in
     (z .0, z .1, y .1, x .1)
 
-small : (h : Header) → badBurst h ≡ false → badSheet h ≡ false → badWidths h ≡ false → Small h
-unfolding badBurst badSheet badWidths
-small h p q r =
+small : (h : Header) → badBurst h ≡ false → badSheet h ≡ false → badWidths h ≡ false → badCells h ≡ false → Small h
+unfolding badBurst badSheet badWidths badCells
+small h p q r s =
     let burst = four (eqb (h .b1) 0) (ltb 4 (h .b1)) (eqb (h .b2) 0) (ltb 4 (h .b2)) p in
     let sheet = four (ltb (h .n1) (h .b1)) (ltb 512 (h .n1)) (ltb (h .n2) (h .b2)) (ltb 698 (h .n2)) q in
     let widths = four (eqb (h .rv) 0) (ltb 32 (h .rv)) (eqb (h .rh) 0) (ltb 32 (h .rh)) r in
@@ -63,6 +63,7 @@ small h p q r =
       rv-most = ltb-false 32 (h .rv) (widths .1);
       rh-pos = omega arith;
       rh-most = ltb-false 32 (h .rh) (widths .3);
+      t-most = ltb-false 2 (h .t) s;
       row-positions = mul-le-mul n1-most b2-most;
       column-positions = mul-le-mul n2-most b1-most;
       box-positions = mul-le-mul b1-most b2-most;
@@ -72,15 +73,17 @@ pub sizes-small : (h : Header) → sizesVerdict h .number ≡ 0 → Small h
 unfolding sizesVerdict
 sizes-small h e =
     let burst = else-zero (verdictIf (badBurst h) (refusal 2 0 0)) _ e in
-    let sheet = else-zero (verdictIf (badSheet h) (refusal 3 0 0)) (verdictIf (badWidths h) (refusal 4 0 0)) (burst .1) in
-    small h (if-zero (badBurst h) 1 0 0 (burst .0)) (if-zero (badSheet h) 2 0 0 (sheet .0)) (if-zero (badWidths h) 3 0 0 (sheet .1))
+    let sheet = else-zero (verdictIf (badSheet h) (refusal 3 0 0)) _ (burst .1) in
+    let widths = else-zero (verdictIf (badWidths h) (refusal 4 0 0)) (verdictIf (badCells h) (refusal 23 0 0)) (sheet .1) in
+    small h (if-zero (badBurst h) 1 0 0 (burst .0)) (if-zero (badSheet h) 2 0 0 (sheet .0)) (if-zero (badWidths h) 3 0 0 (widths .0))
+    (if-zero (badCells h) 22 0 0 (widths .1))
 
 -- four tests that all fail
 four-false : (a b c d : Bool) → a ≡ false → b ≡ false → c ≡ false → d ≡ false → (a || b || c || d) ≡ false
 four-false a b c d p q r s = rw (p, q, r, s)
 
 pub small-sizes : (h : Header) → Small h → sizesVerdict h ≡ accepted
-unfolding sizesVerdict badBurst badSheet badWidths
+unfolding sizesVerdict badBurst badSheet badWidths badCells
 small-sizes h p =
     else-if (badBurst h) _ _
     (four-false _ _ _ _ (ne-eqb (h .b1) 0 (λ e. omega (arith, p .b1-pos))) (le-ltb 4 (h .b1) (p .b1-most)) (ne-eqb (h .b2) 0 (λ e. omega (arith, p .b2-pos)))
@@ -88,9 +91,10 @@ small-sizes h p =
     ∙ else-if (badSheet h) _ _
     (four-false _ _ _ _ (le-ltb (h .n1) (h .b1) (p .n1-least)) (le-ltb 512 (h .n1) (p .n1-most)) (le-ltb (h .n2) (h .b2) (p .n2-least))
     (le-ltb 698 (h .n2) (p .n2-most)))
-    ∙ ap (λ (t : Bool). verdictIf t (refusal 4 0 0))
+    ∙ else-if (badWidths h) _ _
     (four-false _ _ _ _ (ne-eqb (h .rv) 0 (λ e. omega (arith, p .rv-pos))) (le-ltb 32 (h .rv) (p .rv-most)) (ne-eqb (h .rh) 0 (λ e. omega (arith, p .rh-pos)))
     (le-ltb 32 (h .rh) (p .rh-most)))
+    ∙ ap (λ (t : Bool). verdictIf t (refusal 23 0 0)) (le-ltb 2 (h .t) (p .t-most))
 
 -- a negated equality test that fails
 same : (a b : ℕ) → not (eqb a b) ≡ false → a ≡ b

@@ -1,6 +1,6 @@
 -- An accepted plan (document 01, "When a plan is accepted").
 --
---   AcceptedAs s h c   h is the header of the plan s and checks 1 to 5 hold; its code c has the right form (checks 6 and 7 hold too)
+--   AcceptedAs s h c   h is the header of the plan s and checks 1 to 5 and 23 hold; its code c has the right form (checks 6 and 7 hold too)
 --                      and meets the three conditions
 --   AcceptedWith s h   the same of the code with the header h in the bytes s
 use Prim.Native.Nat.{ℕ}

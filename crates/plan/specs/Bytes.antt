@@ -36,6 +36,7 @@ codeFrom h v w row column = record {
   n2 = h .n2;
   b1 = h .b1;
   b2 = h .b2;
+  t = h .t;
   rv = h .rv;
   rh = h .rh;
   rowEntry = v;

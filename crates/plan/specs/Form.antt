@@ -1,9 +1,9 @@
--- The rules of form, checks 1 to 7 of document 01's table, each a definition of its own.
+-- The rules of form, checks 1 to 7 of document 01's table and 23 of document 02 (m), each a definition of its own.
 --
---   badBurst, badSheet, badWidths, badOffsets   checks 2 to 5, over plain numbers
---   sizesVerdict      checks 2 to 4: the header's six numbers, which need no plan
+--   badBurst, badSheet, badWidths, badCells, badOffsets   checks 2 to 4, 23 (02 m) and 5, over plain numbers
+--   sizesVerdict      checks 2 to 4 and 23: the header's seven numbers, which need no plan
 --   offsetsVerdict    check 5: where the tables stand
---   headerVerdict     checks 1 to 5
+--   headerVerdict     checks 1 to 5, with 23 after 4
 --   firstLarge        the first position of a table whose entry has too many bits, or the table's size
 --   entriesVerdict    check 6, of V and then of H
 --   badPair           a pair of the check list is off the sheet, or not after the one before
@@ -34,6 +34,10 @@ badSheet h = ltb (h .n1) (h .b1) || ltb 512 (h .n1) || ltb (h .n2) (h .b2) || lt
 unfoldable pub badWidths : Header → Bool
 badWidths h = eqb (h .rv) 0 || ltb 32 (h .rv) || eqb (h .rh) 0 || ltb 32 (h .rh)
 
+-- check 23: t is over 2
+unfoldable pub badCells : Header → Bool
+badCells h = ltb 2 (h .t)
+
 -- check 5: an offset, the length field or the true length differs from the rule
 unfoldable pub badOffsets : ℕ → Header → Bool
 badOffsets size h =
@@ -43,7 +47,7 @@ badOffsets size h =
 unfoldable pub sizesVerdict : Header → Verdict
 sizesVerdict h =
     verdictIf (badBurst h) (refusal 2 0 0) orElse verdictIf (badSheet h) (refusal 3 0 0)
-    orElse verdictIf (badWidths h) (refusal 4 0 0)
+    orElse verdictIf (badWidths h) (refusal 4 0 0) orElse verdictIf (badCells h) (refusal 23 0 0)
 
 unfoldable pub offsetsVerdict : ℕ → Header → Verdict
 offsetsVerdict size h = verdictIf (badOffsets size h) (refusal 5 0 0)

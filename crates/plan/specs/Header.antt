@@ -1,11 +1,11 @@
 -- The header of a plan (document 01, "Plan bytes"), and where the tables must stand.
 --
 --   headerLength   the number of bytes of the header
---   headerOf       the ten numbers of the header; total is the length of the plan
+--   headerOf       the eleven numbers of the header; total is the length of the plan, and t the most cells of a burst (02 m), 0 for any
 --   columnsStart, checksStart, planLength   where the column table and the check list begin and the plan ends, by the rule
---   ruled h        the header with the six numbers of h, and its places and length by the rule
---   Small h        checks 2 to 4 hold
---   Framed s h     h is the header of the plan s, and checks 1 to 5 hold: what every later step starts from
+--   ruled h        the header with the seven numbers of h, and its places and length by the rule
+--   Small h        checks 2 to 4 and 23 hold
+--   Framed s h     h is the header of the plan s, and checks 1 to 5 and 23 hold: what every later step starts from
 use Prim.Native.Nat.{ℕ, _+_, _*_, _≤_}
 use mathlib.Core.Path.{_≡_}
 use mathlib.Core.List.{List}
@@ -14,7 +14,7 @@ use Rattle.layout.specs.Number.{u16At}
 use Rattle.plan.specs.declared.header.Header.{Header}
 
 abbrev pub headerLength : ℕ
-headerLength = 20
+headerLength = 22
 
 unfoldable pub headerOf : List ℕ → Header
 headerOf s = record {
@@ -28,6 +28,7 @@ headerOf s = record {
   columns = u16At s 14;
   checks = u16At s 16;
   total = u16At s 18;
+  t = u16At s 20;
 }
 
 abbrev pub columnsStart : Header → ℕ
@@ -51,9 +52,10 @@ ruled h = record {
   columns = columnsStart h;
   checks = checksStart h;
   total = planLength h;
+  t = h .t;
 }
 
--- checks 2 to 4 hold of a header, and what follows for the sizes of its tables
+-- checks 2 to 4 and 23 hold of a header, and what follows for the sizes of its tables
 pub record Small (h : Header) : Type 0 where
   pub b1-pos : 1 ≤ h .b1
   pub b1-most : h .b1 ≤ 4
@@ -67,6 +69,7 @@ pub record Small (h : Header) : Type 0 where
   pub rv-most : h .rv ≤ 32
   pub rh-pos : 1 ≤ h .rh
   pub rh-most : h .rh ≤ 32
+  pub t-most : h .t ≤ 2
   pub row-positions : h .n1 * h .b2 ≤ 2048
   pub column-positions : h .n2 * h .b1 ≤ 2792
   pub box-positions : h .b1 * h .b2 ≤ 16

@@ -5,7 +5,7 @@ ghost use Rattle.finite.specs.Search.{least};
 ghost use Rattle.plan.specs.Header.{Small, Framed};
 ghost use Rattle.plan.specs.Bytes.{codeWith};
 ghost use Rattle.plan.specs.Table.{entriesOf, entryOf};
-ghost use Rattle.plan.specs.Form.{badBurst, badSheet, badWidths, badOffsets, sizesVerdict, offsetsVerdict, fieldsVerdict};
+ghost use Rattle.plan.specs.Form.{badBurst, badSheet, badWidths, badCells, badOffsets, sizesVerdict, offsetsVerdict, fieldsVerdict};
 ghost use Rattle.plan.specs.Form.{headerVerdict, firstLarge, entriesVerdict, rises, badPair, listVerdict, formVerdict};
 use crate::entry::check_cell;
 use crate::entry::header_of;
@@ -39,6 +39,13 @@ fn bad_widths(h: Header) -> bool
     (h.rv == 0) | (32 < h.rv) | (h.rh == 0) | (32 < h.rh)
 }
 
+// Check 23: how many cells a burst may have.
+fn bad_cells(h: Header) -> bool
+    ensures { λ r. ⌜ r ≡ badCells h ⌝ }
+{
+    2 < h.t
+}
+
 // Check 5: where the tables begin, and the length, as the field says and as it is.
 fn bad_offsets(size: usize, h: Header) -> bool
     requires { ⌜ Small h ⌝ }
@@ -52,7 +59,7 @@ fn bad_offsets(size: usize, h: Header) -> bool
         | (size != by_rule.total)
 }
 
-// Checks 2 to 4: the six numbers of a header, with or without a plan.
+// Checks 2 to 4 and 23: the seven numbers of a header, with or without a plan.
 pub fn sizes_verdict(h: Header) -> Verdict
     ensures { λ r. ⌜ r ≡ sizesVerdict h ⌝ }
 {
@@ -62,7 +69,10 @@ pub fn sizes_verdict(h: Header) -> Verdict
     if bad_sheet(h) {
         return refuse(3, 0, 0);
     }
-    refuse_if(bad_widths(h), 4, 0, 0)
+    if bad_widths(h) {
+        return refuse(4, 0, 0);
+    }
+    refuse_if(bad_cells(h), 23, 0, 0)
 }
 
 // Check 5, of a plan of size bytes. The sizes come first: the rule's sums then can't wrap.

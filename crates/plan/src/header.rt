@@ -1,4 +1,4 @@
-// The ten numbers of a plan's header.
+// The eleven numbers of a plan's header.
 ghost use mathlib.Core.Path.{_≡_};
 ghost use Prim.Native.Nat.{_≤_};
 ghost use lib.ListN.{length};
@@ -6,7 +6,7 @@ ghost use Rattle.plan.specs.Header.{headerLength, headerOf, ruled, Small
 use layout::number::u16_at;
 
 // How many bytes a header has: one name, since a later format has another.
-pub const LENGTH: usize = 20;
+pub const LENGTH: usize = 22;
 
 pub struct Header {
     pub n1: usize,
@@ -19,6 +19,7 @@ pub struct Header {
     pub columns: usize,
     pub checks: usize,
     pub total: usize,
+    pub t: usize,
 }
 
 // The header of a plan that has one. Others look at it through a view.
@@ -37,10 +38,11 @@ pub(crate) fn read(plan: &[u8]) -> Header
         columns: u16_at(plan, 14),
         checks: u16_at(plan, 16),
         total: u16_at(plan, 18),
+        t: u16_at(plan, 20),
     }
 }
 
-// The header with the six numbers of h, and its places and length by the rule: the one place where the rule is computed.
+// The header with the seven numbers of h, and its places and length by the rule: the one place where the rule is computed.
 pub fn ruled(h: Header) -> Header
     requires { ⌜ Small h ⌝ }
     ensures { λ r. ⌜ r ≡ ruled h ⌝ }
@@ -58,5 +60,6 @@ pub fn ruled(h: Header) -> Header
         columns,
         checks,
         total: checks + 4 * (h.rv + h.rh),
+        t: h.t,
     }
 }

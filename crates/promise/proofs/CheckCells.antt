@@ -19,17 +19,17 @@ use Rattle.promise.specs.Promise.{Passes}
 use Rattle.promise.specs.CheckCells as promise
 
 pub row-floor : promise.RowFloor
-row-floor plan P w =
+row-floor plan P any w =
     let c = codeOf plan in
     let A = accepted-plan plan P in
-    let least : 2 * c .b1 * c .b2 ≤ c .rv = floor.row-floor c (A .formed) (A .conditions) (omega arith) in
+    let least : 2 * c .b1 * c .b2 ≤ c .rv = floor.row-floor c (A .formed) (A .conditions) any (omega arith) in
     omega arith
 
 pub column-floor : promise.ColumnFloor
-column-floor plan P s =
+column-floor plan P any s =
     let c = codeOf plan in
     let A = accepted-plan plan P in
-    let least : c .b1 * c .b2 ≤ c .rh = floor.column-floor c (A .formed) (A .conditions) (omega arith) in
+    let least : c .b1 * c .b2 ≤ c .rh = floor.column-floor c (A .formed) (A .conditions) any (omega arith) in
     omega arith
 
 cells-are : (plan : List ℕ) → Passes plan → promise.checkCells plan ≡ codeOf plan .rv + codeOf plan .rh
@@ -37,12 +37,12 @@ unfolding promise.checkCells
 cells-are plan P = floor.checks-on (codeOf plan) (accepted-plan plan P .formed)
 
 pub check-floor : promise.CheckFloor
-check-floor plan P w s = omega (arith, row-floor plan P w, column-floor plan P s, cells-are plan P)
+check-floor plan P any w s = omega (arith, row-floor plan P any w, column-floor plan P any s, cells-are plan P)
 
 pub three-by-three : promise.ThreeByThree
-three-by-three plan P e f l m =
+three-by-three plan P any e f l m =
     let n : codeOf plan .b1 * codeOf plan .b2 ≡ 9 = ap₂ _*_ e f in
-    let least : 3 * (codeOf plan .b1 * codeOf plan .b2) ≤ promise.checkCells plan = check-floor plan P (omega arith) (omega arith) in
+    let least : 3 * (codeOf plan .b1 * codeOf plan .b2) ≤ promise.checkCells plan = check-floor plan P any (omega arith) (omega arith) in
     omega arith
 
 -- document 01's plan T: 2 × 4 cells, bursts of 1 × 2, 4 and 2 digits
@@ -50,4 +50,4 @@ pub floors-met : promise.FloorsMet
 unfolding T planT planBytes codeOf headerOf u16At
 floors-met =
     let P : Passes T = ap (λ (v : Verdict). v .number) t-accepted in
-    (T, record { passes = P; windows = omega arith; strips = omega arith; row = refl; column = refl; cells = cells-are T P })
+    (T, record { passes = P; any = refl; windows = omega arith; strips = omega arith; row = refl; column = refl; cells = cells-are T P })

@@ -132,7 +132,7 @@ module _ (plan sheet : List ℕ) (a : ℕ) (ok : Passes plan) (f : SheetFor plan
   told-zero n = ap (λ (o : PutBack). o .verdict .number) (put-done plan sheet ok f a n)
 
   from-told : Told (codeOf plan) a → promise.FromBurst plan a
-  from-told T = (cellsTold a, within-burst (codeOf plan) (accepted-plan plan ok .formed) a (T .within), sym (T .same))
+  from-told T = (cellsTold a, within-burst (codeOf plan) (accepted-plan plan ok .formed) a (T .within) (T .sparse), sym (T .same))
 
   told-from : promise.FromBurst plan a → noBurst (codeOf plan) a ≡ false
   told-from w = ap (noBurst (codeOf plan)) (w .2) ∙ burst-told (codeOf plan) (accepted-plan plan ok .formed) (w .0) (w .1)

@@ -5,7 +5,7 @@
 --
 -- Assumes nothing.
 use mathlib.Core.Path.{_≡_, refl, sym, ap, ap₂, subst, _∙_}
-use mathlib.Core.Bool.{true, false}
+use mathlib.Core.Bool.{true, false, not}
 use mathlib.Core.List.{List}
 use Prim.Native.Nat.{ℕ, _+_, _*_, _/_, _%_, _<_}
 use native.Mathlib.Nat.{div-add-mod'}
@@ -13,11 +13,13 @@ use native.Mathlib.Omega.{arith}
 use Rattle.finite.specs.Search.{bit, anyBelow}
 use Rattle.finite.proofs.Truth.{Truth, is-true, is-false, true-or-false, clash, not-true}
 use Rattle.finite.proofs.Search.{any-found, any-here, any-none}
+use Rattle.finite.proofs.Count.{few-most, few-when}
 use Rattle.finite.proofs.Digits.{bits-equal}
 use Rattle.answer.specs.Answer.{Carries, fieldsIn, pIn, qIn, cellsIn, topIn, leftIn, heightIn, widthIn, patternIn, packed}
 use Rattle.answer.proofs.Fields.{success-silent, packed-back}
 use Rattle.boxcode.specs.Code.{Code, Formed}
 use Rattle.boxcode.specs.Syndrome.{Cells}
+use Rattle.boxcode.specs.Burst.{cellCount}
 use Rattle.boxcode.specs.Reader.{Report, rowTouched, reportOf, LiesIn}
 use Rattle.boxcode.proofs.Burst.{OnSheet, burst-on}
 use Rattle.boxcode.proofs.Trial.{box-cell}
@@ -27,8 +29,8 @@ use Rattle.plan.specs.Bytes.{codeOf}
 use Rattle.mend.specs.Report.{reportAs}
 use Rattle.packing.specs.Packed.{reportFields, burstAnswer}
 use Rattle.packing.proofs.Packed.{answer-carries, answer-none}
-use Rattle.putback.specs.PutBack.{cellsTold}
-use Rattle.putback.proofs.Told.{Within, Told, told-inside, within-burst}
+use Rattle.putback.specs.PutBack.{cellsTold, crowded}
+use Rattle.putback.proofs.Told.{Within, Told, told-inside, few-told, within-burst}
 use Rattle.promise.specs.PutBack.{reportTold, Sound}
 
 module _ (plan : List ℕ) (F : Formed (codeOf plan)) (a : ℕ) where
@@ -42,17 +44,22 @@ module _ (plan : List ℕ) (F : Formed (codeOf plan)) (a : ℕ) where
 
   module _ (T : Told c a) where
     carried : Carries a (reportFields accepted (reportAs (reportOf c e)))
-    carried = subst (λ (x : ℕ). Carries x (reportFields accepted (reportAs (reportOf c e)))) (T .same) (answer-carries c F e (within-burst c F a (T .within)))
+    carried =
+        subst (λ (x : ℕ). Carries x (reportFields accepted (reportAs (reportOf c e)))) (T .same)
+        (answer-carries c F e (within-burst c F a (T .within) (T .sparse)))
 
     told-report : reportTold a ≡ reportOf c e
     told-report =
         let K = carried in
         λ i. record { cells = K .cells i; top = K .top i; left = K .left i; height = K .height i; width = K .width i; pattern = K .pattern i }
 
+    counted : cellsIn a ≡ cellCount (c .n1) (c .n2) e
+    counted = carried .cells ∙ (unfold reportOf in refl)
+
     pub told-sound : Sound plan a
     told-sound =
         let K = carried in
-        let on = burst-on c e (within-burst c F a (T .within)) in
+        let on = burst-on c e (within-burst c F a (T .within) (T .sparse)) in
         record {
           height-within = T .within .height-most;
           width-within = T .within .width-most;
@@ -62,7 +69,8 @@ module _ (plan : List ℕ) (F : Formed (codeOf plan)) (a : ℕ) where
               subst (λ (r : Report). LiesIn r top left height width) (sym told-report)
               (report-least c top left height width e h i j (on .rows i j t) (on .columns i j t) t);
           none-beyond = rw (K .pattern, K .height, K .width) (report-below c e);
-          count = K .cells ∙ (unfold reportOf in refl);
+          count = counted;
+          few-cells = λ l. omega (arith, counted, few-most (c .t) (cellCount (c .n1) (c .n2) e) l (few-told c a (T .sparse)));
           none-zero = λ h. sym (T .same) ∙ answer-none c e (λ i j li lj. h i j);
           success = K .number;
           spare-zero = K .below;
@@ -74,8 +82,12 @@ module _ (plan : List ℕ) (F : Formed (codeOf plan)) (a : ℕ) where
     within : Within c a
     within = record { height-most = S .height-within; width-most = S .width-within; rows-on = S .rows-on; columns-on = S .columns-on }
 
+    sparse : crowded c a ≡ false
+    unfolding crowded
+    sparse = ap not (few-when (c .t) (cellCount (c .n1) (c .n2) e) (λ l. omega (arith, S .count, S .few-cells l)))
+
     on : OnSheet c e
-    on = burst-on c e (within-burst c F a within)
+    on = burst-on c e (within-burst c F a within sparse)
 
     -- where the pattern has a cell, the rectangle that is told is that of the report, and so is the pattern
     module _ (i j : ℕ) (t : e i j ≡ true) where
@@ -125,7 +137,7 @@ module _ (plan : List ℕ) (F : Formed (codeOf plan)) (a : ℕ) where
         number = S .success n;
         p = success-silent a (a / 32 % 65536) (S .success) n;
         q = success-silent a (a / 2097152 % 4096) (S .success) n;
-        cells = counted n;
+        cells = tally n;
         top = top-same n;
         left = left-same n;
         height = height-same n;
@@ -133,8 +145,8 @@ module _ (plan : List ℕ) (F : Formed (codeOf plan)) (a : ℕ) where
         pattern = pattern-same n;
       }
         where
-          counted : cellsIn a ≡ r .cells
-          counted = S .count ∙ (unfold reportOf in refl)
+          tally : cellsIn a ≡ r .cells
+          tally = S .count ∙ (unfold reportOf in refl)
 
       some-same : burstAnswer c e ≡ a
       unfolding burstAnswer
@@ -156,4 +168,4 @@ module _ (plan : List ℕ) (F : Formed (codeOf plan)) (a : ℕ) where
             answer-none c e (λ i j li lj. none i j) ∙ sym (S .none-zero none)
 
     pub sound-told : Told c a
-    sound-told = record { within = within; same = same }
+    sound-told = record { within = within; sparse = sparse; same = same }

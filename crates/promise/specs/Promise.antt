@@ -38,9 +38,9 @@ use Rattle.layout.specs.Stored.{sizeIn, cellIn, FormIn, bytesIn}
 use Rattle.layout.specs.declared.stored.Layout.{Layout}
 use Rattle.layout.specs.declared.stored.Layout.the-variants.{ByRow}
 use Rattle.boxcode.specs.Syndrome.{Cells, Belongs, flip}
-use Rattle.boxcode.specs.Burst.{Inside, Burst}
+use Rattle.boxcode.specs.Burst.{Inside, Burst, cellCount}
 use Rattle.boxcode.specs.Check.{dataSize}
-use Rattle.boxcode.specs.Reader.{Report, cellCount, reportOf, noReport, LiesIn}
+use Rattle.boxcode.specs.Reader.{Report, reportOf, noReport, LiesIn}
 use Rattle.plan.specs.Verdict.{accepted, refusal}
 use Rattle.plan.specs.Bytes.{codeOf}
 use Rattle.accept.specs.Verdict.{planVerdict, Accepted}

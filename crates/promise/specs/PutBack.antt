@@ -21,8 +21,8 @@ use mathlib.Core.List.{List}
 use Rattle.answer.specs.Answer.{numberIn, cellsIn, topIn, leftIn, heightIn, widthIn, patternIn}
 use Rattle.layout.specs.declared.stored.Layout.the-variants.{ByRow, ByColumn}
 use Rattle.boxcode.specs.Syndrome.{Cells}
-use Rattle.boxcode.specs.Burst.{Inside}
-use Rattle.boxcode.specs.Reader.{Report, cellCount, LiesIn}
+use Rattle.boxcode.specs.Burst.{Inside, cellCount}
+use Rattle.boxcode.specs.Reader.{Report, LiesIn}
 use Rattle.plan.specs.Verdict.{accepted, refusal}
 use Rattle.plan.specs.Bytes.{codeOf}
 use Rattle.transpose.specs.Transpose.{turnedSheet}
@@ -74,7 +74,8 @@ abbrev pub PutTakes : Type 0
 PutTakes = (plan sheet : List ℕ) (a : ℕ) → Passes plan → SheetFor plan sheet → Taking plan sheet a
 
 -- 22: "the rectangle exceeds the plan's blot, leaves the sheet, is not the smallest for its pattern, the pattern has a bit beyond it, disagrees with the
--- cell count, a none answer is not all zeros, the answer is a refusal, or any other bit of it is not 0": none of these is true
+-- cell count, a none answer is not all zeros, the answer is a refusal, or any other bit of it is not 0"; and 02 m: "more than t cells, with t not 0": none
+-- of these is true
 pub record Sound (plan : List ℕ) (a : ℕ) : Type 0 where
   pub height-within : heightIn a ≤ codeOf plan .b1
   pub width-within : widthIn a ≤ codeOf plan .b2
@@ -85,6 +86,7 @@ pub record Sound (plan : List ℕ) (a : ℕ) : Type 0 where
       → LiesIn (reportTold a) top left height width
   pub none-beyond : patternIn a < 2 ^ (heightIn a * widthIn a)
   pub count : cellsIn a ≡ cellCount (codeOf plan .n1) (codeOf plan .n2) (cellsTold a)
+  pub few-cells : 1 ≤ codeOf plan .t → cellsIn a ≤ codeOf plan .t
   pub none-zero : ((i j : ℕ) → cellsTold a i j ≡ false) → a ≡ 0
   pub success : numberIn a ≡ 0
   pub spare-zero : a < 2 ^ 51

@@ -4,7 +4,8 @@
 --   outside-told       whether the rectangle exceeds the burst or leaves the sheet
 --   wide-told          whether it has rows and columns
 --   report-needs       where it lies within and has, a report can be worked out
---   told-range         and its fields are in range, since it is that of the cells that are told
+--   told-crowded       and it tells whether there are too many cells
+--   told-range         its fields are in range, since it is that of the cells that are told
 --   no-nothing         without rows or columns the answer has to be 0
 --   no-other           else it has to be the answer of the cells that are told
 --
@@ -13,9 +14,9 @@ use mathlib.Core.Path.{_≡_, sym, ap, ap₂, _∙_}
 use mathlib.Core.Bool.{Bool, true, false, not, _||_}
 use Prim.Native.Nat.{ℕ, _+_, _≤_}
 use native.Mathlib.Omega.{arith}
-use borrow.Author.Tests.{eq-eqb, eqb-true}
 use lib.Dec.{eqb, ltb}
-use Rattle.finite.proofs.Truth.{same-truth, or-false}
+use Rattle.finite.specs.Search.{few}
+use Rattle.finite.proofs.Truth.{eqb-comm, or-false}
 use Rattle.answer.specs.declared.Answer.{Answer}
 use Rattle.answer.specs.Answer.{Fields, fieldsOf, fieldsIn, topIn, leftIn, heightIn, widthIn, patternIn, InRange, packed}
 use Rattle.boxcode.specs.Code.{Code, Formed}
@@ -28,8 +29,8 @@ use Rattle.mend.specs.Strip.{BurstSize}
 use Rattle.mend.proofs.Rectangle.{box-report}
 use Rattle.packing.specs.Packed.{reportFields, burstAnswer}
 use Rattle.packing.proofs.Packed.{answer-range}
-use Rattle.putback.specs.PutBack.{cellsTold, exceeds, leaves, noBurst}
-use Rattle.putback.proofs.Told.{Within, told-within, within-burst, wide-size, told-nothing, no-within}
+use Rattle.putback.specs.PutBack.{cellsTold, exceeds, leaves, crowded, noBurst}
+use Rattle.putback.proofs.Told.{Within, told-within, within-burst, wide-size, no-crowd, told-nothing, no-within}
 
 pub record Taken (a : ℕ) (r : Answer) : Type 0 where
   pub top : r .top ≡ topIn a
@@ -63,9 +64,9 @@ module _ (c : Code) (F : Formed c) (a : ℕ) (within : (exceeds c a || leaves c 
 
   pub no-nothing : (eqb (heightIn a) 0 || eqb (widthIn a) 0) ≡ true → not (eqb a 0) ≡ noBurst c a
   no-nothing z =
-      ap not (same-truth (eqb a 0) (eqb 0 a) (λ t. eq-eqb 0 a (sym (eqb-true a 0 t))) (λ t. eq-eqb a 0 (sym (eqb-true 0 a t))))
+      ap not (eqb-comm a 0)
       ∙ ap (λ (x : ℕ). not (eqb x a)) (sym (told-nothing c a z))
-      ∙ no-within c a within
+      ∙ no-within c a within (no-crowd c a z)
 
   module _ (some : (eqb (heightIn a) 0 || eqb (widthIn a) 0) ≡ false) where
     made-size : BurstSize (heightIn a) (widthIn a)
@@ -81,14 +82,22 @@ module _ (c : Code) (F : Formed c) (a : ℕ) (within : (exceeds c a || leaves c 
     told-report = box-report c (topIn a) (leftIn a) (heightIn a) (widthIn a) (patternIn a) (made-size .b2-pos) (inner .rows-on) (inner .columns-on)
 
     -- a report that was worked out
-    module _ {f : Answer} (T : Taken a f) {v : Verdict} {r : Report} (ev : v ≡ accepted)
+    module _ {f : Answer} (T : Taken a f) {r : Report}
         (er : r ≡ reportAs (boxReport (f .top) (f .left) (f .height) (f .width) (f .pattern))) where
-      fields : reportFields v r ≡ reportFields accepted (reportAs (reportOf c (cellsTold a)))
-      fields = ap₂ reportFields ev ((rw (T .top, T .left, T .height, T .width, T .pattern) at er) ∙ ap reportAs (sym told-report))
+      report : r ≡ reportAs (reportOf c (cellsTold a))
+      report = (rw (T .top, T .left, T .height, T .width, T .pattern) at er) ∙ ap reportAs (sym told-report)
 
-      pub told-range : InRange (reportFields v r)
-      told-range = rw fields (answer-range c F (cellsTold a) (within-burst c F a inner))
+      pub told-crowded : {b : Bool} → b ≡ few (c .t) (r .cells) → crowded c a ≡ not b
+      unfolding crowded reportOf
+      told-crowded e = sym (ap not (e ∙ ap (λ (x : Report). few (c .t) (x .cells)) report))
 
-      pub no-other : {x : ℕ} → x ≡ packed (reportFields v r) → not (eqb x a) ≡ noBurst c a
-      unfolding burstAnswer
-      no-other e = ap (λ (y : ℕ). not (eqb y a)) (e ∙ ap packed fields) ∙ no-within c a within
+      module _ (sparse : crowded c a ≡ false) {v : Verdict} (ev : v ≡ accepted) where
+        fields : reportFields v r ≡ reportFields accepted (reportAs (reportOf c (cellsTold a)))
+        fields = ap₂ reportFields ev report
+
+        pub told-range : InRange (reportFields v r)
+        told-range = rw fields (answer-range c F (cellsTold a) (within-burst c F a inner sparse))
+
+        pub no-other : {x : ℕ} → x ≡ packed (reportFields v r) → not (eqb x a) ≡ noBurst c a
+        unfolding burstAnswer
+        no-other e = ap (λ (y : ℕ). not (eqb y a)) (e ∙ ap packed fields) ∙ no-within c a within sparse

@@ -2,6 +2,7 @@
 --
 --   cellsTold a           the cells that the 64 bits a tell: row r and column s of their rectangle have bit r × width + s of their pattern
 --   exceeds, leaves       the rectangle exceeds the plan's burst; it leaves the sheet
+--   crowded               there are more than t cells, with t not 0 (02 m)
 --   noBurst c a           a is the answer of no burst under the plan
 --   burstVerdict          check 22
 --   backChecks            the checks before putting back: 1 to 11, 13 of the sheet, and 22
@@ -12,11 +13,12 @@ use Prim.Native.Nat.{ℕ, _+_}
 use mathlib.Core.Bool.{Bool, cond, not, _||_}
 use mathlib.Core.List.{List}
 use lib.Dec.{eqb, ltb}
+use Rattle.finite.specs.Search.{few}
 use Rattle.answer.specs.Answer.{topIn, leftIn, heightIn, widthIn, patternIn}
 use Rattle.layout.specs.Cells.{cellOf, bytesOf}
 use Rattle.boxcode.specs.Code.{Code}
 use Rattle.boxcode.specs.Syndrome.{Cells, flip}
-use Rattle.boxcode.specs.Burst.{boxCells}
+use Rattle.boxcode.specs.Burst.{cellCount, boxCells}
 use Rattle.plan.specs.declared.verdict.Verdict.{Verdict}
 use Rattle.plan.specs.Verdict.{refusal, verdictIf, _orElse_}
 use Rattle.plan.specs.Bytes.{codeOf}
@@ -32,11 +34,14 @@ exceeds c a = ltb (c .b1) (heightIn a) || ltb (c .b2) (widthIn a)
 unfoldable pub leaves : Code → ℕ → Bool
 leaves c a = ltb (c .n1) (topIn a + heightIn a) || ltb (c .n2) (leftIn a + widthIn a)
 
--- 02 k: "the rectangle exceeds the plan's blot, leaves the sheet," or the reader's answer for the cells that a tells is another than a: the rectangle "is
--- not the smallest for its pattern, the pattern has a bit beyond it, disagrees with the cell count, a none answer is not all zeros, the answer is a
--- refusal, or any other bit of it is not 0"
+unfoldable pub crowded : Code → ℕ → Bool
+crowded c a = not (few (c .t) (cellCount (c .n1) (c .n2) (cellsTold a)))
+
+-- 02 k: "the rectangle exceeds the plan's blot, leaves the sheet," or, 02 m, "more than t cells, with t not 0", or the reader's answer for the cells that
+-- a tells is another than a: the rectangle "is not the smallest for its pattern, the pattern has a bit beyond it, disagrees with the cell count, a none
+-- answer is not all zeros, the answer is a refusal, or any other bit of it is not 0"
 unfoldable pub noBurst : Code → ℕ → Bool
-noBurst c a = exceeds c a || (leaves c a || not (eqb (burstAnswer c (cellsTold a)) a))
+noBurst c a = exceeds c a || (leaves c a || (crowded c a || not (eqb (burstAnswer c (cellsTold a)) a)))
 
 unfoldable pub burstVerdict : Code → ℕ → Verdict
 burstVerdict c a = verdictIf (noBurst c a) (refusal 22 0 0)

@@ -18,6 +18,7 @@ use plan::header::Header;
 use plan::verdict::Verdict;
 use plan::verdict::accept;
 use plan::verdict::refuse_if;
+use sparse::few::few;
 
 // The rectangle exceeds the plan's burst, or leaves the sheet.
 fn outside(h: Header, told: Answer) -> bool
@@ -31,7 +32,7 @@ fn outside(h: Header, told: Answer) -> bool
 }
 
 // The 64 bits are the answer of no burst under the plan. A rectangle without rows or columns has no cells, and their answer is 0; for any other, the
-// answer of the cells that are told is worked out, and has to be the one that was handed in, bit for bit.
+// cells that are told have to be few where t is not 0, and their answer is worked out and has to be the one that was handed in, bit for bit.
 fn no_burst(plan: &[u8], h: Header, answer: u64) -> bool
     requires { ⌜ AcceptedWith (now plan) h ⌝ }
     ensures { λ r. ⌜ r ≡ noBurst (codeWith (now (plan .entry)) h) answer ⌝ }
@@ -50,6 +51,9 @@ fn no_burst(plan: &[u8], h: Header, answer: u64) -> bool
         told.width,
         told.pattern as u64,
     );
+    if !few(h.t, report.cells) {
+        return true;
+    }
     pack_report(accept(), report) != answer
 }
 

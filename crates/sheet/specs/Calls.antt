@@ -38,8 +38,8 @@ verdictFields v = placesFields (v .number) (v .p) (v .q)
 unfoldable pub planAnswer : List ℕ → ℕ
 planAnswer s = packed (verdictFields (planVerdict s))
 
-abbrev pub parameters : (n1 n2 b1 b2 rv v rh h : ℕ) → Parameters
-parameters n1 n2 b1 b2 rv v rh h = record { n1 = n1; n2 = n2; b1 = b1; b2 = b2; rv = rv; vlow = v; rh = rh; hlow = h }
+abbrev pub parameters : (n1 n2 b1 b2 t rv v rh h : ℕ) → Parameters
+parameters n1 n2 b1 b2 t rv v rh h = record { n1 = n1; n2 = n2; b1 = b1; b2 = b2; t = t; rv = rv; vlow = v; rh = rh; hlow = h }
 
 pub record MakeReply : Type 0 where
   pub answer : ℕ

@@ -43,19 +43,21 @@ pub extern "C" fn sheet_plan_make(
     n2: u32,
     b1: u32,
     b2: u32,
+    t: u32,
     rv: u32,
     v_low: u32,
     rh: u32,
     h_low: u32,
     plan: &mut [u8],
 ) -> u64
-    ensures { λ r. ⌜ makeReply r (now (plan .exit)) ≡ makeCall (parameters n1 n2 b1 b2 rv «v_low» rh «h_low») (now (plan .entry)) ⌝ }
+    ensures { λ r. ⌜ makeReply r (now (plan .exit)) ≡ makeCall (parameters n1 n2 b1 b2 t rv «v_low» rh «h_low») (now (plan .entry)) ⌝ }
 {
     let given = Parameters {
         n1: n1 as usize,
         n2: n2 as usize,
         b1: b1 as usize,
         b2: b2 as usize,
+        t: t as usize,
         rv: rv as usize,
         vlow: v_low as u64,
         rh: rh as usize,

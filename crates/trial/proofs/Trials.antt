@@ -23,7 +23,7 @@ use Rattle.gf2.specs.Xor.{_⊕_, pick}
 use Rattle.gf2.proofs.Xor.{xor-zero-right, pick-zero}
 use Rattle.gf2.specs.Sum.{xorSum, chosenSum}
 use Rattle.gf2.proofs.Sum.{sum-equal, sum-zero, sum-split, sum-blocks}
-use Rattle.finite.specs.Search.{bit, least}
+use Rattle.finite.specs.Search.{bit, few, least}
 use Rattle.finite.proofs.Truth.{not-true, in-within}
 use Rattle.finite.proofs.Search.{least-found, least-first, least-is, least-none}
 use Rattle.boxcode.specs.Code.{Code}
@@ -38,7 +38,8 @@ use Rattle.mend.proofs.Turns.{times-next}
 use Rattle.mend.proofs.First.{first-nothing}
 use Rattle.mend.specs.declared.found.Found.the-variants.{Burst, Nothing}
 use Rattle.mend.specs.Found.{firstBurst}
-use Rattle.trial.specs.Trial.{weightBy, Gathered, patternSum, hasSums, triedAt}
+use Rattle.trial.specs.Trial.{weightBy, Gathered, patternSum, hasSums, fitsFew, triedAt}
+use Rattle.mend.proofs.Rectangle.{box-cell-count}
 
 -- ---- the sum of a pattern's cells
 
@@ -113,10 +114,12 @@ pattern-sum c table top left rows columns small p g x =
 -- so pattern by pattern they tell whether it has the two sums
 pub gathered-tried : (c : Code) (top left : ℕ) (rows : top + c .b1 ≤ c .n1) (columns : left + c .b2 ≤ c .n2) → c .b1 * c .b2 ≤ 16
     → (p q : List ℕ) → Gathered Rows c top left p → Gathered Columns c top left q → (v s x : ℕ)
-    → hasSums (wordAt p) (wordAt q) v s x ≡ triedAt c v s top left x
-unfolding hasSums triedAt rowSyndrome columnSyndrome
+    → fitsFew (c .t) (c .b1 * c .b2) (wordAt p) (wordAt q) v s x ≡ triedAt c v s top left x
+unfolding fitsFew hasSums triedAt rowSyndrome columnSyndrome
 gathered-tried c top left rows columns small p q gp gq v s x =
-    ap₂ (λ (a b : ℕ). eqb a v && eqb b s) (pattern-sum c Rows top left rows columns small p gp x) (pattern-sum c Columns top left rows columns small q gq x)
+    ap₂ _&&_
+    (ap₂ (λ (a b : ℕ). eqb a v && eqb b s) (pattern-sum c Rows top left rows columns small p gp x) (pattern-sum c Columns top left rows columns small q gq x))
+    (ap (few (c .t)) (sym (box-cell-count (c .n1) (c .n2) top left (c .b1) (c .b2) x rows columns)))
 
 -- ---- trials, rectangle by rectangle
 

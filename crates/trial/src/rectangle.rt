@@ -52,5 +52,5 @@ pub fn try_rectangle(plan: &[u8], h: Header, top: usize, left: usize, v: u64, s:
 {
     let rows = gather(Table::Rows, plan, h, top, left);
     let columns = gather(Table::Columns, plan, h, top, left);
-    first_pattern(&rows, &columns, h.b1 * h.b2, v, s)
+    first_pattern(&rows, &columns, h.b1 * h.b2, h.t, v, s)
 }

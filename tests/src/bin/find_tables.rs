@@ -19,6 +19,7 @@ fn main() {
 fn windows_serve(rows: usize, ratio: u32) -> bool {
     let v = field_rows(rows, ratio);
     // Nothing else of the plan counts here.
-    let plan = Plan { n1: rows, n2: 4, b1: 4, b2: 4, rv: 32, rh: 1, v, h: vec![], checks: vec![] };
+    let plan =
+        Plan { n1: rows, n2: 4, b1: 4, b2: 4, t: 0, rv: 32, rh: 1, v, h: vec![], checks: vec![] };
     (0..=rows - 4).all(|second| independent(window_entries(&plan, 0, second)))
 }

@@ -1,6 +1,8 @@
 //! The calls of libsheet.a: bare, and on guarded buffers.
 
 mod alter;
+#[cfg(feature = "before")]
+pub mod before;
 mod columns;
 mod guarded;
 mod put;
@@ -75,7 +77,8 @@ archive! {
 
 #[cfg(feature = "before")]
 archive! {
-    /// The archive of an earlier commit, whose symbols have been given other names.
+    /// The archive of an earlier commit, whose symbols have been given other names. Its plans may have
+    /// another form: see `before`.
     BEFORE: before_plan_test, before_write, before_read
 }
 
@@ -130,37 +133,20 @@ impl Archive {
     }
 }
 
-/// Names the maker of plans of an archive, and a function that calls it: bare, or with null for a buffer
-/// of length 0.
-macro_rules! maker {
-    ($(#[$about:meta])* $name:ident: $plan_make:ident) => {
-        $(#[$about])*
-        pub fn $name(given: &Given, plan: &mut [u8], null: bool) -> u64 {
-            extern "C" {
-                fn $plan_make(
-                    n1: u32, n2: u32, b1: u32, b2: u32,
-                    rv: u32, v_low: u32, rh: u32, h_low: u32,
-                    plan: *mut u8, plan_len: usize,
-                ) -> u64;
-            }
-            let Given { n1, n2, b1, b2, rv, v_low, rh, h_low } = *given;
-            let at = target(plan, null);
-            // SAFETY: a mutable slice is writable for its length; where that is 0, any pointer may be
-            // given.
-            unsafe { $plan_make(n1, n2, b1, b2, rv, v_low, rh, h_low, at, plan.len()) }
-        }
-    };
-}
-
-maker! {
-    /// The maker of plans of the archive under test.
-    plan_make: sheet_plan_make
-}
-
-#[cfg(feature = "before")]
-maker! {
-    /// The maker of plans of an earlier commit, which has to have one.
-    plan_make_before: before_plan_make
+/// The maker of plans, bare, or with null for a buffer of length 0.
+#[rustfmt::skip]
+pub fn plan_make(given: &Given, plan: &mut [u8], null: bool) -> u64 {
+    extern "C" {
+        fn sheet_plan_make(
+            n1: u32, n2: u32, b1: u32, b2: u32, t: u32,
+            rv: u32, v_low: u32, rh: u32, h_low: u32,
+            plan: *mut u8, plan_len: usize,
+        ) -> u64;
+    }
+    let Given { n1, n2, b1, b2, t, rv, v_low, rh, h_low } = *given;
+    let at = target(plan, null);
+    // SAFETY: a mutable slice is writable for its length; where that is 0, any pointer may be given.
+    unsafe { sheet_plan_make(n1, n2, b1, b2, t, rv, v_low, rh, h_low, at, plan.len()) }
 }
 
 /// The maker of the house plan, bare, or with null for a buffer of length 0. The archive of an earlier

@@ -1,6 +1,8 @@
-//! When a plan is accepted: checks 6 to 10, after those of the header in `plan`.
+//! When a plan is accepted: checks 6 to 10, after those of the header in `plan`. Checks 8 and 9 of a plan
+//! whose t is not 0 are in `sparse`.
 
 use super::algebra::{independent, Span};
+use super::sparse::{alike_windows, vanishing_strips};
 use crate::answer::{Answer, Places};
 use crate::plan::Plan;
 
@@ -11,10 +13,10 @@ pub fn test_plan(bytes: &[u8]) -> Answer {
 
 /// The plan in these bytes, or the refusal of the first check that fails.
 pub fn accept(bytes: &[u8]) -> Result<Plan, Answer> {
-    accept_by(bytes, dependent_windows, dependent_strips)
+    accept_by(bytes, failing_windows, failing_strips)
 }
 
-/// `accept` with other ways to find the first dependent windows and strips (see `yardstick`).
+/// `accept` with other ways to find the first windows and strips that fail (see `yardstick`).
 pub fn accept_by(
     bytes: &[u8],
     windows: impl Fn(&Plan) -> Places,
@@ -48,8 +50,26 @@ fn misplaced_check(plan: &Plan) -> Places {
     (0..plan.checks.len()).find(|&index| misplaced(index)).map(|index| (index, 0))
 }
 
+/// The first two windows that fail check 8, as it is read for the plan's t.
+pub fn failing_windows(plan: &Plan) -> Places {
+    if plan.t == 0 {
+        dependent_windows(plan)
+    } else {
+        alike_windows(plan)
+    }
+}
+
+/// The first two strips that fail check 9, as it is read for the plan's t.
+pub fn failing_strips(plan: &Plan) -> Places {
+    if plan.t == 0 {
+        dependent_strips(plan)
+    } else {
+        vanishing_strips(plan)
+    }
+}
+
 /// The first two windows of b1 rows, possibly the same, whose V entries are dependent.
-pub fn dependent_windows(plan: &Plan) -> Places {
+fn dependent_windows(plan: &Plan) -> Places {
     let windows = plan.n1 - plan.b1 + 1;
     for first in 0..windows {
         for second in first..windows {
@@ -69,7 +89,7 @@ pub fn window_entries(plan: &Plan, first: usize, second: usize) -> impl Iterator
 }
 
 /// The first two strips of b2 columns whose members are dependent.
-pub fn dependent_strips(plan: &Plan) -> Places {
+fn dependent_strips(plan: &Plan) -> Places {
     let strips = plan.n2 - plan.b2 + 1;
     for first in 0..strips {
         for second in first + 1..strips {

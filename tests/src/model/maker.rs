@@ -1,6 +1,6 @@
-//! Making a plan, by the words of request a of document 02.
+//! Making a plan, by the words of requests a and m of document 02.
 
-use super::accept::{dependent_strips, dependent_windows};
+use super::accept::{failing_strips, failing_windows};
 use super::algebra::Span;
 use super::sheet::cells;
 use crate::answer::Answer;
@@ -8,7 +8,7 @@ use crate::given::Given;
 use crate::plan::Plan;
 
 /// The plan that is made where a buffer of `plan_len` bytes is lent for it, or the refusal of the
-/// first check that fails: 2, 3, 4, 5, 15, 8, 9, 16 in this order.
+/// first check that fails: 2, 3, 4, 23, 5, 15, 8, 9, 16 in this order.
 pub fn made_plan(given: &Given, plan_len: usize) -> Result<Plan, Answer> {
     let mut plan = given.sizes();
     plan.check_sizes()?;
@@ -16,8 +16,8 @@ pub fn made_plan(given: &Given, plan_len: usize) -> Result<Plan, Answer> {
     Answer::refuse_if(given.polynomials().into_iter().any(bad_polynomial), 15)?;
     plan.v = (0..plan.n1 * plan.b2).map(|k| power(k, plan.rv, given.v_low)).collect();
     plan.h = (0..plan.n2 * plan.b1).map(|k| power(k, plan.rh, given.h_low)).collect();
-    Answer::refuse_at(dependent_windows(&plan), 8)?;
-    Answer::refuse_at(dependent_strips(&plan), 9)?;
+    Answer::refuse_at(failing_windows(&plan), 8)?;
+    Answer::refuse_at(failing_strips(&plan), 9)?;
     plan.checks = taken_cells(&plan);
     Answer::refuse_if(plan.checks.len() < plan.rv + plan.rh, 16)?;
     Ok(plan)

@@ -5,7 +5,7 @@ use super::sheet::{syndrome, Cell};
 use crate::answer::Answer;
 use crate::plan::Plan;
 
-/// The first burst that fits, by trial: each rectangle in sheet order, each pattern in it. Turning
+/// The first burst that fits, by trial: each rectangle in sheet order, each pattern of a burst in it. Turning
 /// cells over changes the syndrome by the exclusive-or of their joint entries.
 pub fn burst_by_trial(plan: &Plan, sheet: &[u8]) -> Option<Vec<Cell>> {
     let target = syndrome(plan, sheet);
@@ -21,7 +21,8 @@ pub fn burst_by_trial(plan: &Plan, sheet: &[u8]) -> Option<Vec<Cell>> {
                     let one = pattern.trailing_zeros() as usize;
                     change[pattern] = change[pattern & (pattern - 1)] ^ entries[one];
                 }
-                if change[pattern] == target {
+                let few = pattern.count_ones() as usize <= plan.most_cells();
+                if few && change[pattern] == target {
                     let inside = |index: &usize| pattern >> index & 1 == 1;
                     return Some(
                         (0..cells.len()).filter(inside).map(|index| cells[index]).collect(),
@@ -34,15 +35,15 @@ pub fn burst_by_trial(plan: &Plan, sheet: &[u8]) -> Option<Vec<Cell>> {
 }
 
 /// The burst that fits, under an accepted plan: at most one does. In a window of b1 rows at most
-/// one pattern of rows and remainders modulo b2 has the V sum; it is laid on each strip of columns
-/// and its H sum compared.
+/// one pattern of a burst, of rows and remainders modulo b2, has the V sum; it is laid on each strip of
+/// columns and its H sum compared.
 pub fn burst_by_search(plan: &Plan, sheet: &[u8]) -> Option<Vec<Cell>> {
     let target = syndrome(plan, sheet);
     let v_target = target & ((1 << plan.rv) - 1);
     let h_target = (target >> plan.rv) as u32;
     for top in 0..=plan.n1 - plan.b1 {
         let entries = &plan.v[top * plan.b2..(top + plan.b1) * plan.b2];
-        let Some(pattern) = solve(entries.iter().map(|&entry| entry.into()), v_target) else {
+        let Some(pattern) = pattern_with(plan, entries, v_target) else {
             continue;
         };
         for left in 0..=plan.n2 - plan.b2 {
@@ -54,6 +55,23 @@ pub fn burst_by_search(plan: &Plan, sheet: &[u8]) -> Option<Vec<Cell>> {
         }
     }
     None
+}
+
+/// The pattern of a burst whose entries, of those of one window, have this sum: with few cells, by trial.
+fn pattern_with(plan: &Plan, entries: &[u32], sum: u64) -> Option<u64> {
+    let entries = entries.iter().map(|&entry| u64::from(entry));
+    if plan.t == 0 {
+        return solve(entries, sum);
+    }
+    let all: Vec<_> = entries.enumerate().map(|(at, entry)| (1u64 << at, entry)).collect();
+    let one = all.iter().copied();
+    let two = all.iter().enumerate().flat_map(|(after, (one, entry))| {
+        all[..after].iter().map(move |(other, more)| (one | other, entry ^ more))
+    });
+    let patterns = [(0, 0)].into_iter().chain(one).chain(two);
+    let mut few =
+        patterns.filter(|(pattern, _)| pattern.count_ones() as usize <= plan.most_cells());
+    few.find(|&(_, of_pattern)| of_pattern == sum).map(|(pattern, _)| pattern)
 }
 
 /// The cells of a pattern on the rectangle at (top, left), in sheet order. Position r × b2 + m of

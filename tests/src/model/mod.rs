@@ -1,4 +1,4 @@
-//! The sixteen calls, by the words of documents 01 and 02 (requests a and c to k) and with no eye to speed
+//! The sixteen calls, by the words of documents 01 and 02 (requests a, c to k and m) and with no eye to speed
 //! beyond what full-size sheets ask for.
 
 mod accept;
@@ -12,6 +12,7 @@ mod mend;
 mod put;
 mod run;
 mod sheet;
+mod sparse;
 mod stack;
 mod trial;
 mod two;

@@ -1,4 +1,4 @@
-//! Putting a blot back, by the words of request k of document 02.
+//! Putting a blot back, by the words of requests k and m of document 02.
 
 use super::buffers::check_putting_back;
 use super::sheet::{turn_over, Cell};
@@ -6,7 +6,7 @@ use super::{accept, smallest_rectangle};
 use crate::answer::Answer;
 use crate::plan::Plan;
 
-/// Why check 22 turns an answer back: 02's reasons, in its order.
+/// Why check 22 turns an answer back: 02's reasons, in its order, and last that of request m.
 #[derive(Clone, Copy, Debug, PartialEq, Eq, PartialOrd, Ord)]
 pub enum Fault {
     /// The rectangle exceeds the plan's burst.
@@ -25,9 +25,11 @@ pub enum Fault {
     Refusal,
     /// Any other bit of it is not 0.
     OtherBit,
+    /// It tells of more than t cells, and t is not 0.
+    MoreThanT,
 }
 
-pub const FAULTS: [Fault; 8] = [
+pub const FAULTS: [Fault; 9] = [
     Fault::Exceeds,
     Fault::Leaves,
     Fault::NotSmallest,
@@ -36,6 +38,7 @@ pub const FAULTS: [Fault; 8] = [
     Fault::None,
     Fault::Refusal,
     Fault::OtherBit,
+    Fault::MoreThanT,
 ];
 
 /// The fields of an answer end here.
@@ -52,7 +55,8 @@ pub fn faults(plan: &Plan, answer: u64) -> Vec<Fault> {
 
 /// Is this reason there? The answer is no refusal.
 fn has(plan: &Plan, answer: u64, told: Answer, fault: Fault) -> bool {
-    let [n1, n2, b1, b2] = [plan.n1, plan.n2, plan.b1, plan.b2].map(|size| size as u64);
+    let sizes = [plan.n1, plan.n2, plan.b1, plan.b2, plan.t];
+    let [n1, n2, b1, b2, t] = sizes.map(|size| size as u64);
     let Answer { cells, top, left, height, width, pattern, .. } = told;
     match fault {
         Fault::Exceeds => height > b1 || width > b2,
@@ -67,6 +71,7 @@ fn has(plan: &Plan, answer: u64, told: Answer, fault: Fault) -> bool {
         Fault::None => cells == 0 && told.mended() != [0; 6],
         Fault::Refusal => told.is_refusal(),
         Fault::OtherBit => answer >> FIELDS_END != 0,
+        Fault::MoreThanT => t != 0 && cells > t,
     }
 }
 

@@ -1,5 +1,5 @@
-//! Reading by trial, by the words of request j of document 02: each rectangle in sheet order, each pattern in it,
-//! until both sums are 0.
+//! Reading by trial, by the words of request j of document 02: each rectangle in sheet order, each pattern
+//! in it, until both sums are 0. Where t is not 0, a pattern has at most t cells (request m).
 
 use super::buffers::check_reading;
 use super::layout::Layout;
@@ -16,6 +16,9 @@ pub fn burst_tried(plan: &Plan, sheet: &[u8]) -> Option<Vec<Cell>> {
         for left in 0..=plan.n2 - plan.b2 {
             for pattern in 0..1u32 << (plan.b1 * plan.b2) {
                 let cells = cells_of(plan, (top, left), pattern);
+                if plan.t != 0 && cells.len() > plan.t {
+                    continue;
+                }
                 let mut turned = sheet.to_vec();
                 for &at in &cells {
                     turn_over(plan, &mut turned, at);

@@ -7,15 +7,21 @@
 //! the same remainder. The runs are taken two at a time, since neighbours share all groups but
 //! two, and reduced without branches; a failure is located by a slower second look.
 
-use super::Basis;
+use super::{sparse, Basis};
 use crate::answer::Places;
 use crate::plan::Plan;
 
 pub fn windows(plan: &Plan) -> Places {
+    if plan.t != 0 {
+        return sparse::windows(plan);
+    }
     dispatch(plan.b1, plan.b2, Windows(plan))
 }
 
 pub fn strips(plan: &Plan) -> Places {
+    if plan.t != 0 {
+        return sparse::strips(plan);
+    }
     dispatch(plan.b1, plan.b2, Strips(plan))
 }
 

@@ -66,7 +66,8 @@ fn add(basis: &mut Vec<u64>, vector: u64) -> bool {
 fn lay(plan: &Plan, buffer: &mut [u8]) {
     let (header, rest) = buffer.split_at_mut(HEADER_LEN);
     let sizes = [plan.n1, plan.n2, plan.b1, plan.b2, plan.rv, plan.rh];
-    for (bytes, number) in header.chunks_exact_mut(2).zip(sizes.into_iter().chain(plan.layout())) {
+    let numbers = sizes.into_iter().chain(plan.layout()).chain([plan.t]);
+    for (bytes, number) in header.chunks_exact_mut(2).zip(numbers) {
         bytes.copy_from_slice(&(number as u16).to_le_bytes());
     }
     let pairs = plan.checks.iter().map(|&(i, j)| u32::from(i) | u32::from(j) << 16);

@@ -8,6 +8,7 @@ mod maker;
 mod plain;
 mod put;
 mod sheets;
+mod sparse;
 mod stack;
 mod trial;
 mod two;
@@ -16,6 +17,9 @@ pub use alter::alter_accepted;
 pub use columns::{read_by_column_accepted, turn_accepted, write_by_column_accepted};
 pub use put::put_back_accepted;
 pub use sheets::{read_accepted, sum_accepted, write_accepted};
+pub use sparse::{
+    first_row_of_strips as sparse_first_strips, first_row_of_windows as sparse_first_windows,
+};
 pub use stack::read_stack_accepted;
 pub use trial::read_by_trial_accepted;
 pub use two::{first_difference_accepted, read_two_accepted};
@@ -37,6 +41,11 @@ pub fn plain_plan_test(bytes: &[u8]) -> u64 {
 /// table.
 pub fn best_plan_test(bytes: &[u8]) -> u64 {
     packed(bytes, best::windows, best::strips)
+}
+
+/// The test of a plan whose bursts have few cells, in plain Rust that knows a table of powers by its look.
+pub fn sparse_plan_test(bytes: &[u8]) -> u64 {
+    packed(bytes, sparse::windows_by_look, sparse::strips_by_look)
 }
 
 fn packed(bytes: &[u8], windows: fn(&Plan) -> Places, strips: fn(&Plan) -> Places) -> u64 {

@@ -3,23 +3,35 @@
 //! the one does that stands as far apart and begins with the first; so the first row decides, and its
 //! first failing pair is the first of all.
 
-use super::Basis;
+use super::{sparse, Basis};
 use crate::answer::Places;
 use crate::plan::Plan;
 
 pub fn windows(plan: &Plan) -> Places {
+    if plan.t != 0 {
+        return sparse::windows(plan);
+    }
     (0..=plan.n1 - plan.b1).find_map(|i| windows_after(plan, i))
 }
 
 pub fn strips(plan: &Plan) -> Places {
+    if plan.t != 0 {
+        return sparse::strips(plan);
+    }
     (0..=plan.n2 - plan.b2).find_map(|c| strips_after(plan, c))
 }
 
 pub fn first_row_of_windows(plan: &Plan) -> Places {
+    if plan.t != 0 {
+        return sparse::first_row_of_windows(plan);
+    }
     windows_after(plan, 0)
 }
 
 pub fn first_row_of_strips(plan: &Plan) -> Places {
+    if plan.t != 0 {
+        return sparse::first_row_of_strips(plan);
+    }
     strips_after(plan, 0)
 }
 

@@ -29,6 +29,9 @@ fn is_of_a_burst(plan: &Plan, answer: u64) -> bool {
         return answer == 0;
     }
     let [n1, n2, b1, b2] = [plan.n1, plan.n2, plan.b1, plan.b2].map(|size| size as u64);
+    if cells > plan.most_cells() as u64 {
+        return false;
+    }
     let fits = (1..=b1).contains(&height) && (1..=b2).contains(&width);
     if !fits || top + height > n1 || left + width > n2 || pattern >> (height * width) != 0 {
         return false;

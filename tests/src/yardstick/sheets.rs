@@ -3,6 +3,7 @@
 
 use std::ops::Range;
 
+use super::sparse::positions_with;
 use crate::answer::Answer;
 use crate::model::{check_summing, smallest_rectangle, solve, Cell, Layout, Sums};
 use crate::plan::Plan;
@@ -164,6 +165,9 @@ fn burst(plan: &Plan, (v_sum, h_sum): Sums) -> Option<Vec<Cell>> {
     if v_sum == 0 {
         return (h_sum == 0).then(Vec::new);
     }
+    if plan.t != 0 {
+        return burst_of_few(plan, (v_sum, h_sum));
+    }
     for top in 0..=plan.n1 - b1 {
         let entries = &plan.v[top * b2..(top + b1) * b2];
         let Some(pattern) = solve(entries.iter().map(|&entry| entry.into()), v_sum.into()) else {
@@ -179,4 +183,18 @@ fn burst(plan: &Plan, (v_sum, h_sum): Sums) -> Option<Vec<Cell>> {
         }
     }
     None
+}
+
+/// The same where a burst has few cells: one set of rows and remainders has the V sum, and it is laid on
+/// each strip.
+fn burst_of_few(plan: &Plan, (v_sum, h_sum): Sums) -> Option<Vec<Cell>> {
+    let positions = positions_with(plan, v_sum)?;
+    let cell =
+        |left: usize, (i, m): (usize, usize)| (i, left + (m + plan.b2 - left % plan.b2) % plan.b2);
+    let h_of = |left: usize| {
+        let laid = positions.iter().map(|&at| cell(left, at));
+        laid.fold(0, |sum, (i, j)| sum ^ plan.h_entry(i, j))
+    };
+    let left = (0..=plan.n2 - plan.b2).find(|&left| h_of(left) == h_sum)?;
+    Some(positions.iter().map(|&at| cell(left, at)).collect())
 }

@@ -18,10 +18,14 @@ pub fn read_by_trial_accepted(plan: &Plan, sheet: &mut [u8], data: &mut [u8]) ->
     }
 }
 
-/// The first pattern that has these two sums: each rectangle in sheet order, each pattern by its number.
+/// The first pattern of a burst that has these two sums: each rectangle in sheet order, each pattern by its
+/// number.
 fn burst(plan: &Plan, (v_sum, h_sum): Sums) -> Option<Vec<Cell>> {
     let count = plan.b1 * plan.b2;
     let (mut v, mut h) = ([0; 16], [0; 16]);
+    let few = |pattern: &u32| pattern.count_ones() as usize <= plan.t;
+    let all = 0..1u32 << count;
+    let of_few: Vec<_> = if plan.t == 0 { vec![] } else { all.clone().filter(few).collect() };
     for top in 0..=plan.n1 - plan.b1 {
         for left in 0..=plan.n2 - plan.b2 {
             let cell = |at: usize| (top + at / plan.b2, left + at % plan.b2);
@@ -29,12 +33,15 @@ fn burst(plan: &Plan, (v_sum, h_sum): Sums) -> Option<Vec<Cell>> {
                 let (i, j) = cell(at);
                 (v[at], h[at]) = (plan.v_entry(i, j), plan.h_entry(i, j));
             }
-            for pattern in 0..1u32 << count {
-                if chosen(&v, pattern) == v_sum && chosen(&h, pattern) == h_sum {
-                    return Some(
-                        (0..count).filter(|at| pattern >> at & 1 == 1).map(cell).collect(),
-                    );
-                }
+            let fits =
+                |&pattern: &u32| chosen(&v, pattern) == v_sum && chosen(&h, pattern) == h_sum;
+            let found = if plan.t == 0 {
+                all.clone().find(fits)
+            } else {
+                of_few.iter().copied().find(fits)
+            };
+            if let Some(pattern) = found {
+                return Some((0..count).filter(|at| pattern >> at & 1 == 1).map(cell).collect());
             }
         }
     }

@@ -15,6 +15,7 @@ mod plan_test;
 mod put;
 mod runs;
 mod sheets;
+mod sparse;
 mod stack;
 mod subject;
 mod timing;
@@ -40,6 +41,8 @@ fn main() {
     columns::turns();
     trial::trials();
     put::putting_back();
+    sparse::plan_test();
+    sparse::write_and_read();
     #[cfg(feature = "before")]
     before::beside();
 }

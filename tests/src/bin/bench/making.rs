@@ -63,12 +63,22 @@ pub fn makers<const N: usize>(
     number: u64,
     makers: [Maker; N],
 ) -> [Vec<Duration>; N] {
+    let (times, plans) = timed(given, number, makers);
+    assert!(plans.iter().all(|plan| *plan == plans[0]), "the plans differ");
+    times
+}
+
+/// The times of each of these makers, which must give this number, and the buffers as they are left.
+pub fn timed<const N: usize>(
+    given: &Given,
+    number: u64,
+    makers: [Maker; N],
+) -> ([Vec<Duration>; N], [Vec<u8>; N]) {
     let plans = makers.map(|_| RefCell::new(vec![0; given.plan_len()]));
     let make = |at: usize| {
         assert_eq!(makers[at](black_box(given), &mut plans[at].borrow_mut()) & 31, number);
     };
     let calls: [_; N] = array::from_fn(|at| move || make(at));
     let times = in_turns(calls.each_ref().map(|call| call as &dyn Fn()));
-    assert!(plans.iter().all(|plan| *plan == plans[0]), "the plans differ");
-    times
+    (times, plans.map(RefCell::into_inner))
 }

@@ -7,7 +7,7 @@ use sheet_tests::ffi::{Archive, SHEET};
 use sheet_tests::model::{write_sheet, Cell, Layout};
 use sheet_tests::plan::Plan;
 use sheet_tests::rng::Rng;
-use sheet_tests::scans::{burst, random_data, turned};
+use sheet_tests::scans::{full_burst, random_data, turned};
 use sheet_tests::yardstick::{read_accepted, write_accepted};
 
 use crate::subject::{sheets, Subject, SUBJECT};
@@ -39,7 +39,7 @@ pub struct Job<'a> {
 
 /// A full burst in the last corner, where a search in sheet order comes last.
 pub fn last_corner(plan: &Plan) -> Vec<Cell> {
-    burst(plan, plan.n1 - plan.b1, plan.n2 - plan.b2, u32::MAX)
+    full_burst(plan, plan.n1 - plan.b1, plan.n2 - plan.b2)
 }
 
 impl Job<'_> {
@@ -58,6 +58,14 @@ impl Job<'_> {
         let sheet = RefCell::new(scan.clone());
         let into = RefCell::new(vec![0; data.len()]);
         Job { subject, bytes: plan.encode(), data, written, scan, sheet, into }
+    }
+
+    /// The same with other bytes of the plan, which hold the same plan, and with buffers of its own.
+    #[cfg(feature = "before")]
+    pub fn with_plan(&self, bytes: Vec<u8>) -> Job<'_> {
+        let Job { subject, ref data, ref written, ref scan, ref sheet, ref into, .. } = *self;
+        let (data, written, scan) = (data.clone(), written.clone(), scan.clone());
+        Job { subject, bytes, data, written, scan, sheet: sheet.clone(), into: into.clone() }
     }
 
     pub fn restore(&self) {
@@ -95,7 +103,9 @@ impl Job<'_> {
     }
 }
 
-fn compare(job: &Job) {
+/// The least times of the plan test, of writing and of reading by the library, and of the two in plain Rust
+/// without a plan test.
+pub fn least_times(job: &Job) -> [f64; 5] {
     let contenders: [&dyn Fn(); 5] = [
         &|| job.test(SHEET),
         &|| job.write(SHEET),
@@ -103,8 +113,13 @@ fn compare(job: &Job) {
         &|| job.plain_write(),
         &|| job.plain_read(),
     ];
-    let [test, write, read, plain_write, plain_read] = in_turns(contenders).map(least);
+    let times = in_turns(contenders).map(least);
     job.assert_done();
+    times
+}
+
+fn compare(job: &Job) {
+    let [test, write, read, plain_write, plain_read] = least_times(job);
     for (call, library, plain) in
         [("write", write - test, plain_write), ("read", read - test, plain_read)]
     {

@@ -4,7 +4,7 @@ use std::cell::RefCell;
 use std::hint::black_box;
 
 use sheet_tests::ffi::{Archive, BY_TRIAL, SHEET};
-use sheet_tests::make::{accepted_of, powers_3x3, CellOrder};
+use sheet_tests::make::{accepted_of_with, powers_3x3, CellOrder};
 use sheet_tests::model::write_sheet;
 use sheet_tests::pairs::hopeless;
 use sheet_tests::plan::Plan;
@@ -22,9 +22,9 @@ fn subjects(rng: &mut Rng) -> [Subject; 4] {
     let random = |plan| Subject { plan, tables: "random" };
     [
         Subject { plan: powers_3x3(8, 8, CellOrder::Sheet, rng), tables: "powers" },
-        random(accepted_of(rng, [4, 16, 3, 3])),
-        random(accepted_of(rng, [8, 8, 4, 4])),
-        random(accepted_of(rng, [4, 16, 4, 4])),
+        random(accepted_of_with(rng, [4, 16, 3, 3], 0)),
+        random(accepted_of_with(rng, [8, 8, 4, 4], 0)),
+        random(accepted_of_with(rng, [4, 16, 4, 4], 0)),
     ]
 }
 

@@ -1,25 +1,24 @@
--- `accept::rest::differ_rest` meets its contract. The invariant: the words from the end of the strip up to k are reduced by it, and at is the
--- remainder of k's place. Assumes nothing.
-use mathlib.Core.Path.{_≡_, refl, sym, _∙_}
-use Prim.Native.Nat.{_+_, _-_, _%_, _≤_, _<_}
-use native.Mathlib.Nat.{mod-lt, mod-self}
+-- `accept::rest::differ_rest` meets its contract. The invariant: the words from the end of the strip up to k are reduced by it, and at k, if that is
+-- not the end, the strip's first remainder stands again. Assumes nothing.
+use mathlib.Core.Path.{_≡_, refl, ap, _∙_}
+use Prim.Native.Nat.{ℕ, _+_, _-_, _%_, _≤_, _<_, min}
+use native.Mathlib.Nat.{mod-self}
 use native.Mathlib.Omega.{arith}
 use lib.ListN.{length}
 use borrow.Author.Needs.{needs}
-use Rattle.gf2.specs.Xor.{_⊕_}
 use Rattle.plan.specs.Table.{wordAt}
 use Rattle.accept.specs.Windows.{reduction}
-use Rattle.accept.proofs.Remains.{Filled, filled-start, filled-next, prepared-columns, cycle-next}
+use Rattle.accept.proofs.Remains.{Filled, filled-start, filled-block, cycle-home}
 use Rattle.accept.proofs.rest.differ_rest.Statement.{statement}
 use Rattle.accept.proofs.rest.differ_rest.Tie as tie
 
 abbrev Inv-loop : tie.InvT-loop
-Inv-loop words first size rest₀ at₀ k₀ rest at k =
-    (k ≤ length words) × (first + size ≤ k) × (at ≡ (k - first) % size) × (at < size)
+Inv-loop words first size rest₀ k₀ rest k =
+    (k ≤ length words) × (first + size ≤ k) × (k < length words → (k - first) % size ≡ 0)
     × Filled (reduction (wordAt words) first size) (first + size) k (length words) rest
 
 abbrev μ-loop : tie.MeasureT-loop
-μ-loop words first size rest₀ at₀ k₀ rest at k = length words - k
+μ-loop words first size rest₀ k₀ rest k = length words - k
 
 add-k : tie.Need-add-k Inv-loop μ-loop
 add-k c = omega arith
@@ -27,51 +26,41 @@ add-k c = omega arith
 loop-holds : tie.Need-loop-holds Inv-loop μ-loop
 loop-holds c =
     let s = c .before .before in
-    let e : s .args .first + s .args .size - s .args .first ≡ s .args .size = omega arith in
-    (omega arith, omega arith, rw e (sym (mod-self (s .args .size))), omega arith, filled-start _ _ _ _ (s .pre .1))
+    let a = s .args in
+    let e : a .first + a .size - a .first ≡ a .size = omega arith in
+    (omega arith, omega arith, λ _. ap (λ (x : ℕ). x % a .size) e ∙ mod-self (a .size), filled-start _ _ _ _ (s .pre .1))
 
-mul-rest : tie.Need-mul-rest Inv-loop μ-loop
-mul-rest c = omega arith
+sub-smaller : tie.Need-sub-smaller Inv-loop μ-loop
+sub-smaller c = omega arith
 
-shared-slice-read-rest : tie.Need-shared-slice-read-rest Inv-loop μ-loop
-shared-slice-read-rest c = omega arith
+smaller-requires : tie.Need-smaller-requires Inv-loop μ-loop
+smaller-requires c κs = search needs
 
-add-rest : tie.Need-add-rest Inv-loop μ-loop
-add-rest c = omega arith
-
-mul-rest-2 : tie.Need-mul-rest-2 Inv-loop μ-loop
-mul-rest-2 c = omega arith
-
-shared-slice-read-rest-2 : tie.Need-shared-slice-read-rest-2 Inv-loop μ-loop
-shared-slice-read-rest-2 c = omega arith
-
-mul-rest-3 : tie.Need-mul-rest-3 Inv-loop μ-loop
-mul-rest-3 c = omega arith
-
-slice-write-rest : tie.Need-slice-write-rest Inv-loop μ-loop
-slice-write-rest c = omega (arith, c .before .before .before .loop .inv .4 .size)
-
-after-requires : tie.Need-after-requires Inv-loop μ-loop
-after-requires c κs = c .before .before .before .loop .inv .3
+differ-block-requires : tie.Need-differ-block-requires Inv-loop μ-loop
+differ-block-requires c κs =
+    let i = c .before .before .before .loop .inv in
+    let n = c .before .smaller .ensures in
+    (omega arith, omega arith, i .3 .size)
 
 add-k-2 : tie.Need-add-k-2 Inv-loop μ-loop
-add-k-2 c = omega arith
+add-k-2 c = let n = c .before .before .before .before .smaller .ensures in omega arith
 
 loop-less : tie.Need-loop-less Inv-loop μ-loop
-loop-less c = omega arith
+loop-less c =
+    let n = c .before .before .before .before .smaller .ensures in
+    let z = c .before .before .before .before .before .before .before .before .before .pre .0 .size-pos in
+    omega arith
 
 loop-again : tie.Need-loop-again Inv-loop μ-loop
-unfolding reduction _⊕_
 loop-again c =
-    let s = c .before .before .before .before .before .before .before in
-    let l = c .before .before .before .before .loop in
-    let e = c .after .ensures ∙ cycle-next (s .args .first) (s .args .size) (l .k) (l .at) (omega arith) (l .inv .2) in
-    let v = l .inv .2 in (
+    let a = c .before .before .before .before .before .before .before .before .before .args in
+    let l = c .before .before .before .before .before .before .loop in
+    let n = c .before .before .before .before .smaller .ensures in
+    let home = l .inv .2 (omega arith) in (
       omega arith,
       omega arith,
-      e,
-      rw e (mod-lt (l .k + 1 - s .args .first) (s .pre .0 .size-pos)),
-      filled-next (l .inv .4) (omega arith) _ (rw v refl),
+      λ u. cycle-home (wordAt (a .words .now)) (a .first) (a .size) (l .k) _ (omega arith) (l .inv .1) home (omega arith),
+      filled-block (wordAt (a .words .now)) (a .first) (a .size) (l .k) _ (omega arith) (l .inv .1) home (l .inv .3) (c .before .before .differ-block .ensures),
     )
 
 same-length : tie.Need-same-length Inv-loop μ-loop
@@ -82,7 +71,8 @@ returns c =
     let s = c .before .before .before .before in
     let l = c .before .loop in
     let e : l .k ≡ length (s .args .words .now) = omega arith in
-    prepared-columns (s .args .words .now) (s .args .size) (s .args .first) (s .pre .0 .inside) (l .rest) (rw e at (l .inv .4))
+    let f = rw e at (l .inv .3) in
+    (refl, record { long = f .size; value = f .value })
 
 pub differ-rest-spec : {M : Type 1} → statement M
 differ-rest-spec =
@@ -92,14 +82,9 @@ differ-rest-spec =
     μ-loop
     add-k
     loop-holds
-    mul-rest
-    shared-slice-read-rest
-    add-rest
-    mul-rest-2
-    shared-slice-read-rest-2
-    mul-rest-3
-    slice-write-rest
-    after-requires
+    sub-smaller
+    smaller-requires
+    differ-block-requires
     add-k-2
     loop-less
     loop-again

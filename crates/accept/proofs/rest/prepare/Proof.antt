@@ -1,5 +1,6 @@
 -- `accept::rest::prepare` meets its contract: each arm is told which table it has. Assumes nothing.
 use borrow.Author.Needs.{needs}
+use Rattle.accept.proofs.Remains.{prepared-columns}
 use Rattle.accept.proofs.rest.prepare.Statement.{statement}
 use Rattle.accept.proofs.rest.prepare.Tie as tie
 
@@ -25,7 +26,7 @@ same-length-2 : tie.Need-same-length-2
 same-length-2 c = search needs
 
 returns-2 : tie.Need-returns-2
-returns-2 c = rw (c .before .before .before .before .enum-told2 .given .1) (c .before .before .differ-rest .ensures)
+returns-2 c = rw (c .before .before .before .before .enum-told2 .given .1) (prepared-columns (c .before .before .differ-rest .ensures))
 
 pub prepare-spec : {M : Type 1} → statement M
 prepare-spec =

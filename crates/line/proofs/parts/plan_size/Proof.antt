@@ -1,4 +1,4 @@
--- `line::parts::plan_size` meets its contract: under 20 bytes, all are the plan. Assumes nothing.
+-- `line::parts::plan_size` meets its contract: under 22 bytes, all are the plan. Assumes nothing.
 use native.Mathlib.Omega.{arith}
 use Rattle.line.specs.Line.{planSize}
 use borrow.Author.Needs.{needs}

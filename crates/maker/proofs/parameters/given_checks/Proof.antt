@@ -14,7 +14,7 @@ use Rattle.maker.proofs.parameters.given_checks.Tie as tie
 abbrev given : tie.Else1 → tie.Start
 given c = c .before .before .before .before
 
--- the answer of checks 2 to 4, and what follows where it is 0
+-- the answer of checks 2 to 4 and 23, and what follows where it is 0
 sizes : (c : tie.After-sizes-verdict) → c .sizes-verdict .result ≡ sizesVerdict (numbersOf (c .before .before .args .g))
 sizes c = c .sizes-verdict .ensures ∙ ap sizesVerdict (c .before .numbers .ensures)
 

@@ -1,4 +1,4 @@
--- `plan::form::fields_verdict` meets its contract: where checks 2 to 4 pass the header is small, and check 5 can be computed. Assumes nothing.
+-- `plan::form::fields_verdict` meets its contract: where checks 2 to 4 and 23 pass the header is small, and check 5 can be computed. Assumes nothing.
 use mathlib.Core.Path.{_≡_, sym, ap, _∙_}
 use Rattle.plan.specs.declared.verdict.Verdict.{Verdict}
 use Rattle.plan.specs.Form.{sizesVerdict, fieldsVerdict}
@@ -8,7 +8,7 @@ use borrow.Author.Needs.{needs}
 use Rattle.plan.proofs.form.fields_verdict.Statement.{statement}
 use Rattle.plan.proofs.form.fields_verdict.Tie as tie
 
--- checks 2 to 4 passed
+-- checks 2 to 4 and 23 passed
 passed : (c : tie.Else1) → sizesVerdict (c .before .before .before .args .h) .number ≡ 0
 passed c = ap (λ (v : Verdict). v .number) (sym (c .before .before .sizes-verdict .ensures)) ∙ c .if1 .left
 

@@ -12,7 +12,7 @@ use borrow.Author.Needs.{needs}
 use Rattle.plan.proofs.form.form_verdict.Statement.{statement}
 use Rattle.plan.proofs.form.form_verdict.Tie as tie
 
--- checks 1 to 5 passed
+-- checks 1 to 5 and 23 passed
 accepts : (c : tie.Else1) → headerVerdict (c .before .before .before .before .args .plan .now) .number ≡ 0
 accepts c = ap (λ (v : Verdict). v .number) (sym (c .before .before .header-verdict .ensures)) ∙ c .if1 .left
 

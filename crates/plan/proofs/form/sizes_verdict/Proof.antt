@@ -2,7 +2,7 @@
 use mathlib.Core.Path.{_≡_}
 use mathlib.Core.Bool.{true, false}
 use Rattle.plan.specs.Verdict.{_orElse_}
-use Rattle.plan.specs.Form.{badBurst, badSheet, sizesVerdict}
+use Rattle.plan.specs.Form.{badBurst, badSheet, badWidths, sizesVerdict}
 use borrow.Author.Needs.{needs}
 use Rattle.plan.proofs.form.sizes_verdict.Statement.{statement}
 use Rattle.plan.proofs.form.sizes_verdict.Tie as tie
@@ -35,15 +35,32 @@ returns-2 c =
 bad-widths-requires : tie.Need-bad-widths-requires
 bad-widths-requires c κs = search needs
 
-refuse-if-requires : tie.Need-refuse-if-requires
-refuse-if-requires c κs = search needs
+refuse-requires-3 : tie.Need-refuse-requires-3
+refuse-requires-3 c κs = search needs
 
 returns-3 : tie.Need-returns-3
 unfolding sizesVerdict _orElse_
 returns-3 c =
-    let b : badBurst (c .before .before .before .before .before .before .args .h) ≡ false = cc in
-    let s : badSheet (c .before .before .before .before .before .before .args .h) ≡ false = cc in
-    rw (b, s, ← (c .before .bad-widths .ensures)) (c .refuse-if .ensures)
+    let h = c .before .before .before .before .before .before .before .args .h in
+    let b : badBurst h ≡ false = cc in
+    let s : badSheet h ≡ false = cc in
+    let w : badWidths h ≡ true = cc in
+    rw (b, s, w) (c .refuse3 .ensures)
+
+bad-cells-requires : tie.Need-bad-cells-requires
+bad-cells-requires c κs = search needs
+
+refuse-if-requires : tie.Need-refuse-if-requires
+refuse-if-requires c κs = search needs
+
+returns-4 : tie.Need-returns-4
+unfolding sizesVerdict _orElse_
+returns-4 c =
+    let h = c .before .before .before .before .before .before .before .before .args .h in
+    let b : badBurst h ≡ false = cc in
+    let s : badSheet h ≡ false = cc in
+    let w : badWidths h ≡ false = cc in
+    rw (b, s, w, ← (c .before .bad-cells .ensures)) (c .refuse-if .ensures)
 
 pub sizes-verdict-spec : {M : Type 1} → statement M
 sizes-verdict-spec =
@@ -56,5 +73,8 @@ sizes-verdict-spec =
     refuse-requires-2
     returns-2
     bad-widths-requires
+    refuse-requires-3
+    returns-3
+    bad-cells-requires
     refuse-if-requires
-    returns-3)
+    returns-4)

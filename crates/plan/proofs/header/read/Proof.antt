@@ -1,4 +1,4 @@
--- `plan::header::read` meets its contract: ten numbers, each in its place. Assumes nothing.
+-- `plan::header::read` meets its contract: eleven numbers, each in its place. Assumes nothing.
 use Rattle.plan.specs.Header.{headerOf}
 use borrow.Author.Needs.{needs}
 use Rattle.plan.proofs.header.read.Statement.{statement}
@@ -34,6 +34,9 @@ u16-at-requires-9 c κs = search needs
 u16-at-requires-10 : tie.Need-u16-at-requires-10
 u16-at-requires-10 c κs = search needs
 
+u16-at-requires-11 : tie.Need-u16-at-requires-11
+u16-at-requires-11 c κs = search needs
+
 returns : tie.Need-returns
 unfolding headerOf
 returns c = cc
@@ -52,4 +55,5 @@ read-spec =
     u16-at-requires-8
     u16-at-requires-9
     u16-at-requires-10
+    u16-at-requires-11
     returns)

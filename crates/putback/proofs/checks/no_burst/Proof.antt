@@ -1,13 +1,13 @@
--- `putback::checks::no_burst` meets its contract: by the rectangle, and then by the whole answer. Assumes nothing.
+-- `putback::checks::no_burst` meets its contract: by the rectangle, then by how many cells there are, and then by the whole answer. Assumes nothing.
 use mathlib.Core.Path.{_≡_, _∙_}
 use mathlib.Core.Bool.{false, not, _||_}
 use lib.Dec.{eqb}
 use Rattle.answer.specs.Answer.{heightIn, widthIn}
 use Rattle.answer.proofs.Fields.{fields-range}
 use Rattle.plan.specs.Bytes.{codeWith}
-use Rattle.putback.specs.PutBack.{exceeds, leaves, noBurst}
-use Rattle.putback.proofs.Told.{no-outside}
-use Rattle.putback.proofs.Made.{Taken, taken-out, outside-told, wide-told, report-needs, no-nothing, told-range, no-other}
+use Rattle.putback.specs.PutBack.{exceeds, leaves, crowded, noBurst}
+use Rattle.putback.proofs.Told.{no-outside, no-crowded}
+use Rattle.putback.proofs.Made.{Taken, taken-out, outside-told, wide-told, report-needs, no-nothing, told-crowded, told-range, no-other}
 use borrow.Author.Needs.{needs}
 use Rattle.putback.proofs.checks.no_burst.Statement.{statement}
 use Rattle.putback.proofs.checks.no_burst.Tie as tie
@@ -48,23 +48,42 @@ report-of-requires c κs =
     let e = c .before .before .before in
     report-needs _ (given e .pre .formed) _ (within e) (some c) (fields e)
 
+few-requires : tie.Need-few-requires
+few-requires c κs = search needs
+
+-- the report that was worked out tells whether there are too many cells
+crowd : (c : tie.After-few) → let a = given (c .before .before .before .before .before) .args in
+    crowded (codeWith (a .plan .now) (a .h)) (a .answer) ≡ not (c .few .result)
+crowd c =
+    let t = c .before .before in
+    let e = t .before .before .before in
+    told-crowded _ (given e .pre .formed) _ (within e) (some t) (fields e) (c .before .report-of .ensures) (c .few .ensures)
+
+returns-3 : tie.Need-returns-3
+returns-3 c =
+    let e = c .before .before .before .before .before .before in
+    no-crowded _ _ (within e) (crowd (c .before) ∙ c .if3 .taken)
+
 accept-requires : tie.Need-accept-requires
 accept-requires c κs = search needs
 
 pack-report-requires : tie.Need-pack-report-requires
 pack-report-requires c κs =
-    let t = c .before .before in
+    let f = c .before .before in
+    let t = f .before .before in
     let e = t .before .before .before in
-    told-range _ (given e .pre .formed) _ (within e) (some t) (fields e) (c .accept .ensures) (c .before .report-of .ensures)
+    told-range _ (given e .pre .formed) _ (within e) (some t) (fields e) (f .before .report-of .ensures) (crowd f ∙ c .before .if3 .left) (c .accept .ensures)
 
-returns-3 : tie.Need-returns-3
-returns-3 c =
+returns-4 : tie.Need-returns-4
+returns-4 c =
     let a = c .before in
-    let t = a .before .before in
+    let f = a .before .before in
+    let t = f .before .before in
     let e = t .before .before .before in
     let g = given e .args in
     let n : not (eqb (c .pack-report .result) (g .answer)) ≡ noBurst (codeWith (g .plan .now) (g .h)) (g .answer) =
-    no-other _ (given e .pre .formed) _ (within e) (some t) (fields e) (a .accept .ensures) (a .before .report-of .ensures) (c .pack-report .ensures) in
+    no-other _ (given e .pre .formed) _ (within e) (some t) (fields e) (f .before .report-of .ensures) (crowd f ∙ a .before .if3 .left)
+    (a .accept .ensures) (c .pack-report .ensures) in
     n
 
 pub no-burst-spec : {M : Type 1} → statement M
@@ -76,6 +95,8 @@ no-burst-spec =
     returns
     returns-2
     report-of-requires
+    few-requires
+    returns-3
     accept-requires
     pack-report-requires
-    returns-3)
+    returns-4)

@@ -1,4 +1,4 @@
--- `trial::pattern::first_pattern` meets its contract. The invariant: no pattern before x has the two sums. Assumes nothing.
+-- `trial::pattern::first_pattern` meets its contract. The invariant: no pattern before x fits. Assumes nothing.
 use mathlib.Core.Path.{_≡_, sym, _∙_}
 use mathlib.Core.Bool.{false}
 use Prim.Native.Nat.{ℕ, _-_, _*_, _%_, _^_, _≤_, _<_}
@@ -9,15 +9,15 @@ use borrow.Author.Needs.{needs}
 use borrow.Author.Count.{below-none, below-more}
 use Rattle.finite.proofs.Search.{search-finds, search-ends}
 use Rattle.plan.specs.Table.{wordAt}
-use Rattle.trial.specs.Trial.{hasSums}
+use Rattle.trial.specs.Trial.{fitsFew}
 use Rattle.trial.proofs.pattern.first_pattern.Statement.{statement}
 use Rattle.trial.proofs.pattern.first_pattern.Tie as tie
 
 abbrev Inv-loop : tie.InvT-loop
-Inv-loop rows columns n v s count x₀ x = ((j : ℕ) → j < x → hasSums (wordAt rows) (wordAt columns) v s j ≡ false) × (x ≤ 2 ^ n)
+Inv-loop rows columns n t v s count x₀ x = ((j : ℕ) → j < x → fitsFew t n (wordAt rows) (wordAt columns) v s j ≡ false) × (x ≤ 2 ^ n)
 
 abbrev μ-loop : tie.MeasureT-loop
-μ-loop rows columns n v s count x₀ x = 2 ^ n - x
+μ-loop rows columns n t v s count x₀ x = 2 ^ n - x
 
 -- the number of patterns, as the code has it
 counted : (n : ℕ) → n ≤ 16 → 1 * 2 ^ n % 2 ^ 32 ≡ 2 ^ n
@@ -32,15 +32,15 @@ cast-count c = search needs
 loop-holds : tie.Need-loop-holds Inv-loop μ-loop
 loop-holds c = (below-none _, omega arith)
 
-has-sums-requires : tie.Need-has-sums-requires Inv-loop μ-loop
-has-sums-requires c κs = search needs
+fits-requires : tie.Need-fits-requires Inv-loop μ-loop
+fits-requires c κs = search needs
 
 returns : tie.Need-returns Inv-loop μ-loop
 returns c =
     let t = c .before in
     let w = t .before .before .before in
     let e = counted (w .before .before .before .args .n) (omega arith) in
-    c .wide .ensures ∙ search-finds _ _ _ (omega arith) (w .loop .inv .0) (sym (t .before .has-sums .ensures) ∙ t .if1 .taken)
+    c .wide .ensures ∙ search-finds _ _ _ (omega arith) (w .loop .inv .0) (sym (t .before .fits2 .ensures) ∙ t .if1 .taken)
 
 wide-requires : tie.Need-wide-requires Inv-loop μ-loop
 wide-requires c κs = search needs
@@ -61,7 +61,7 @@ loop-again : tie.Need-loop-again Inv-loop μ-loop
 loop-again c =
     let w = c .before .before .before in
     let e = counted (w .before .before .before .args .n) (omega arith) in
-    (below-more _ _ (w .loop .inv .0) (sym (c .before .has-sums .ensures) ∙ c .if1 .left), omega arith)
+    (below-more _ _ (w .loop .inv .0) (sym (c .before .fits2 .ensures) ∙ c .if1 .left), omega arith)
 
 returns-2 : tie.Need-returns-2 Inv-loop μ-loop
 returns-2 c =
@@ -78,7 +78,7 @@ first-pattern-spec =
     cast-count
     shl-count
     loop-holds
-    has-sums-requires
+    fits-requires
     wide-requires
     returns
     add-x
