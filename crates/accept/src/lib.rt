@@ -1,4 +1,6 @@
 // The test of a plan: the conditions on courses, needles and check cells, and all checks of document 01 in order.
+#![tactic(auto)]
+
 pub mod checks;
 pub mod conditions;
 pub mod few;

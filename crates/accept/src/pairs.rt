@@ -5,7 +5,7 @@ ghost use Rattle.accept.specs.Pairs.{pair_verdict};
 use plan::verdict::{Verdict, accept, refuse};
 
 // The first failing pair of starts, or none.
-#[derive(Drop)]
+#[derive(Clone, Copy)]
 pub enum Pair {
     Failing(usize, usize),
     Clear,

@@ -1,8 +1,10 @@
 // The answer of a call as one 64-bit number: the number of the check lowest, and above it its places, or the report of a success (docs/ANSWER.md).
+#![tactic(auto)]
+
 ghost use Rattle.std.specs.Prelude.{◌≡◌, cond, ◌/◌, ◌%◌, ◌<◌, eqb};
 ghost use Rattle.answer.specs.Answer.{InRange, fields_of, places_fields, fields_in, place_bits, report_bits, packed, packed_part};
 
-#[derive(Drop)]
+#[derive(Clone, Copy)]
 pub struct Answer {
     pub number: usize,
     pub p: usize,

@@ -1,4 +1,6 @@
 // The row where two scans of one film first differ (document 02, request g), as a part of the second scan.
+#![tactic(auto)]
+
 ghost use Rattle.std.specs.Prelude.{◌≡◌, ◌/◌, ◌≤◌, ◌<◌};
 ghost use Rattle.layout.specs.Cells.{row_bytes};
 ghost use Rattle.difference.specs.Difference.{row_part, difference, part_of};
@@ -9,7 +11,7 @@ use layout::differ::first_different;
 use plan::entry::header_of;
 
 // The bytes from start up to but not including end.
-#[derive(Drop)]
+#[derive(Clone, Copy)]
 pub struct Part {
     pub start: usize,
     pub end: usize,

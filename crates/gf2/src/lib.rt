@@ -5,6 +5,8 @@
 //   words by leading digit, with the combination of vectors that makes each (find_combination; proofs/Basis.antt, Solving.antt): which of
 //   them sum to a target?
 // And tables of powers (powers).
+#![tactic(auto)]
+
 pub mod powers;
 
 ghost use Rattle.std.specs.Prelude.{◌≡◌, true, [], ◌≤◌, ◌<◌, min, length, take};
@@ -21,7 +23,7 @@ pub fn empty_basis() -> [u64; 64]
 }
 
 // What is left of a vector, and the combination of members that was taken off it.
-#[derive(Drop)]
+#[derive(Clone, Copy)]
 struct Residue {
     left: u64,
     combo: u64,
@@ -35,7 +37,7 @@ struct Solver {
 }
 
 // The combination of members that makes a target, or that there is none.
-#[derive(Drop)]
+#[derive(Clone, Copy)]
 pub enum Solution {
     Combination(u64),
     Outside,

@@ -1,4 +1,6 @@
 // The column table of the house plan, held in the program as a constant (document 02, request d): 512 rows, 698 columns, bursts of 3 by 3.
+#![tactic(auto)]
+
 mod constant;
 
 ghost use Rattle.std.specs.Prelude.{◌≡◌, ◌≤◌, length};

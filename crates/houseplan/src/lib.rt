@@ -1,4 +1,6 @@
 // The house plan (document 02, request d): what the maker makes from the house numbers, its column table out of the constant.
+#![tactic(auto)]
+
 ghost use Rattle.std.specs.Prelude.{◌≡◌, length};
 ghost use Rattle.maker.specs.Make.{given_checks, made, make};
 ghost use Rattle.houseplan.specs.HousePlan.{house_parameters};

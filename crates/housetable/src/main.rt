@@ -1,5 +1,7 @@
 // The generator of the house table (document 02, request d): the column table of the house plan in decimal, one entry a line, worked out from
 // the house polynomial. It does not look at the constant.
+#![tactic(auto)]
+
 ghost use Rattle.std.specs.Prelude.{◌≤◌, length};
 ghost use Rattle.text.specs.Text.{lines_text, Printed};
 ghost use Rattle.house.specs.House.{house_columns};

@@ -5,7 +5,7 @@ ghost use Rattle.layout.specs.Stored.{Sizes, other_than, size_in, cell_in, turne
 use crate::cells::{cell, first_unused, row_bytes, turn_if};
 
 // Row after row (01), or column after column (02 i).
-#[derive(Drop)]
+#[derive(Clone, Copy)]
 pub enum Layout {
     ByRow,
     ByColumn,

@@ -1,3 +1,5 @@
+#![tactic(auto)]
+
 pub mod choice;
 pub mod parts;
 pub mod print;

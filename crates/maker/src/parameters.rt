@@ -8,7 +8,7 @@ use plan::verdict::{Verdict, refuse_if};
 
 // The sizes of the sheet and of a burst, and the most cells of a burst, or 0 for any; and of each table the degree of its polynomial, rv or rh,
 // and the coefficients below that, digit i for the power i.
-#[derive(Drop)]
+#[derive(Clone, Copy)]
 pub struct Parameters {
     pub n1: usize,
     pub n2: usize,

@@ -12,7 +12,7 @@ use plan::header::Header;
 
 // The cells taken so far: their numbers in sheet order, and the words of a basis of their joint entries. The first count of each array
 // are in use.
-#[derive(Drop)]
+#[derive(Clone, Copy)]
 pub struct Taken {
     pub words: [u64; 64],
     pub cells: [usize; 64],

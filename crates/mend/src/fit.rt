@@ -11,7 +11,7 @@ use plan::entry::row_entry;
 use plan::header::Header;
 
 // The pattern, by remainders: digit r × b2 + t stands for row i + r and remainder t modulo b2. Or that there is none.
-#[derive(Drop)]
+#[derive(Clone, Copy)]
 pub enum Fit {
     Pattern(u64),
     Nothing,

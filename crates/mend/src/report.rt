@@ -4,7 +4,7 @@ ghost use Rattle.finite.specs.Search.{bit, count_below, first_of, past_of};
 ghost use Rattle.mend.specs.Strip.{BurstSize};
 ghost use Rattle.mend.specs.Report.{Lines, Part, any_of, line_has, part_number, box_report, report_as};
 
-#[derive(Drop)]
+#[derive(Clone, Copy)]
 pub struct Report {
     pub cells: usize,
     pub top: usize,

@@ -1,4 +1,6 @@
 // The reader's answer as one 64-bit number.
+#![tactic(auto)]
+
 ghost use Rattle.std.specs.Prelude.{◌≡◌};
 ghost use Rattle.answer.specs.Answer.{InRange, packed};
 ghost use Rattle.packing.specs.Packed.{report_fields};

@@ -7,7 +7,7 @@ use layout::number::u16_at;
 // How many bytes a header has: one name, since a later format has another.
 pub const LENGTH: usize = 22;
 
-#[derive(Drop)]
+#[derive(Clone, Copy)]
 pub struct Header {
     pub n1: usize,
     pub n2: usize,

@@ -8,7 +8,7 @@ use crate::entry::{column_entry, row_entry};
 use crate::header::Header;
 
 // The row table V, the column table H.
-#[derive(Drop)]
+#[derive(Clone, Copy)]
 pub enum Table {
     Rows,
     Columns,

@@ -7,14 +7,14 @@ ghost use Rattle.plan.specs.Bytes.{CheckCell};
 use crate::header::{Header, read};
 use layout::number::{u16_at, u32_at};
 
-#[derive(Drop)]
+#[derive(Clone, Copy)]
 pub struct View<'a> {
     pub plan: &'a [u8],
     pub header: Header,
 }
 
 // A check cell: a pair of the check list.
-#[derive(Drop)]
+#[derive(Clone, Copy)]
 pub struct Cell {
     pub row: usize,
     pub column: usize,

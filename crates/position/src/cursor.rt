@@ -12,7 +12,7 @@ use plan::header::Header;
 // The cell (row, column), its number in sheet order, the number of data cells and of check cells before it in sheet order,
 // the number of the next check cell, and the data cells before its row and before the next row, added. Past the last cell
 // of a row, column is the number of columns.
-#[derive(Drop)]
+#[derive(Clone, Copy)]
 pub struct Cursor {
     pub cell: usize,
     pub row: usize,

@@ -7,7 +7,7 @@ use mend::report::Report;
 use plan::verdict::Verdict;
 
 // The number of document 01's table with its places, and the report: six zeros where the number is not 0.
-#[derive(Drop)]
+#[derive(Clone, Copy)]
 pub struct Answer {
     pub verdict: Verdict,
     pub report: Report,

@@ -1,4 +1,6 @@
 // The two sums of a run of rows (document 02, request e), in a buffer of 8 bytes.
+#![tactic(auto)]
+
 ghost use Rattle.std.specs.Prelude.{◌≡◌, ◌++◌, length};
 ghost use Rattle.layout.specs.Number.{low_bytes};
 ghost use Rattle.runsums.specs.RunSums.{summed, sum_run};

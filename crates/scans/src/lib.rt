@@ -1,3 +1,5 @@
 // Two scans of one film, read together.
+#![tactic(auto)]
+
 pub mod agree;
 pub mod reading;

@@ -1,5 +1,7 @@
 // The calls for C (include/sheet.h). Each takes whatever it is handed, and answers one 64-bit number (docs/ANSWER.md).
 // A call that turns something back changes no byte of any buffer. The data buffer is called bits here.
+#![tactic(auto)]
+
 ghost use Rattle.std.specs.Prelude.{◌≡◌};
 ghost use Rattle.houseplan.specs.HousePlan.{house_parameters};
 ghost use Rattle.sheet.specs.Calls.{plan_answer, parameters, make_reply, make_call, write_reply, write_call, read_reply, read_call};

@@ -1,4 +1,6 @@
 // The program: a plan and a sheet on standard input, one line on standard output.
+#![tactic(auto)]
+
 use libc::{STDIN_FILENO, STDOUT_FILENO};
 use reader::search::Search;
 

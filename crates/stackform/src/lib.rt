@@ -1,4 +1,6 @@
 // The bytes of a stack of sheets (document 02, request h): its header, and where each sheet begins.
+#![tactic(auto)]
+
 ghost use Rattle.std.specs.Prelude.{◌≡◌, ◌≤◌, ◌<◌, length};
 ghost use Rattle.finite.specs.Search.{any_below};
 ghost use Rattle.stackform.specs.Stack.{sheet_count, header_end, sheet_place, entry_broken, stack_broken};

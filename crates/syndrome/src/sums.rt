@@ -1,5 +1,5 @@
 // The two sums of a set of cells.
-#[derive(Drop)]
+#[derive(Clone, Copy)]
 pub struct Sums {
     pub row: u64,
     pub column: u64,

@@ -1,4 +1,6 @@
 // Text in a buffer of bytes: each function writes from place n on, and gives the place after what it wrote.
+#![tactic(auto)]
+
 ghost use Rattle.std.specs.Prelude.{◌≡◌, [], ◌∷◌, ◌+◌, ◌*◌, ◌≤◌, ◌<◌, length};
 ghost use Rattle.text.specs.Text.{digit_of, decimal_bytes, field, hex_bytes, hex_text, line_bytes, lines_text, Put};
 

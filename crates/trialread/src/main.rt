@@ -1,4 +1,6 @@
 // The sales desk's program (02 j): it takes and prints what sheetread does, and reads small sheets by trial.
+#![tactic(auto)]
+
 use libc::{STDIN_FILENO, STDOUT_FILENO};
 
 // At most 65,536 bytes are read, in as many pieces as they come in.

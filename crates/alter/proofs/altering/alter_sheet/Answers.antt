@@ -1,0 +1,44 @@
+-- `alter::altering::alter_sheet` meets its contract: the joint entry of the cell that was turned over is the joint sum to bring to 0. Assumes nothing.
+use Prim.Native.Nat.{◌<◌}
+use native.Mathlib.Omega.{arith}
+use Rattle.layout.proofs.Form.{byte_inside}
+use Rattle.layout.proofs.Turned.{turned-form}
+use Rattle.boxcode.proofs.One.{row_on, column-on}
+use Rattle.plan.specs.Bytes.{code_with}
+use Rattle.alter.proofs.Turned.{turned-joint, turned-altered}
+use Rattle.alter.proofs.altering.alter_sheet.Goals as goal
+
+pub joint_entry-joint-requires : goal.joint_entry-joint-requires
+joint_entry-joint-requires c =
+    let A = c.requires.accepted_with in record { framed = A.framed; formed = A.formed; i_lt_n1 = (let on-sheet-here : let h = c.args.h in (c.data_cell-cell.result.row < h.n1) × (c.data_cell-cell.result.column < h.n2) = let p = c.requires in
+    let e = c.data_cell-cell.ensures in
+    (omega (arith, e.row, row_on _ p.accepted_with.formed _ p.position_bound), omega (arith, e.column, column-on _ p.accepted_with.formed _ p.position_bound)) in on-sheet-here) }
+
+pub turn-requires : goal.turn-requires
+turn-requires c =
+    let p = c.requires in
+    let b = byte_inside _ _ ((let on-sheet-here : let h = c.args.h in (c.data_cell-cell.result.row < h.n1) × (c.data_cell-cell.result.column < h.n2) = let p = c.requires in
+    let e = c.data_cell-cell.ensures in
+    (omega (arith, e.row, row_on _ p.accepted_with.formed _ p.position_bound), omega (arith, e.column, column-on _ p.accepted_with.formed _ p.position_bound)) in on-sheet-here)).1 _ _ ((let on-sheet-here : let h = c.args.h in (c.data_cell-cell.result.row < h.n1) × (c.data_cell-cell.result.column < h.n2) = let p = c.requires in
+    let e = c.data_cell-cell.ensures in
+    (omega (arith, e.row, row_on _ p.accepted_with.formed _ p.position_bound), omega (arith, e.column, column-on _ p.accepted_with.formed _ p.position_bound)) in on-sheet-here)).0 in
+    (omega (arith, p.accepted_with.formed.n2-most), omega (arith, p.right_form.size))
+
+pub balance-requires : goal.balance-requires
+balance-requires c =
+    let p = c.requires in
+    let f = p.right_form in
+    let i = ((let on-sheet-here : let h = c.args.h in (c.data_cell-cell.result.row < h.n1) × (c.data_cell-cell.result.column < h.n2) = let p = c.requires in
+    let e = c.data_cell-cell.ensures in
+    (omega (arith, e.row, row_on _ p.accepted_with.formed _ p.position_bound), omega (arith, e.column, column-on _ p.accepted_with.formed _ p.position_bound)) in on-sheet-here)).0 in
+    let j = ((let on-sheet-here : let h = c.args.h in (c.data_cell-cell.result.row < h.n1) × (c.data_cell-cell.result.column < h.n2) = let p = c.requires in
+    let e = c.data_cell-cell.ensures in
+    (omega (arith, e.row, row_on _ p.accepted_with.formed _ p.position_bound), omega (arith, e.column, column-on _ p.accepted_with.formed _ p.position_bound)) in on-sheet-here)).1 in
+    (p.accepted_with, rw c.turn.ensures (turned-form _ _ _ f _ _ i j, turned-joint _ p.accepted_with.formed _ f _ _ _ i j p.belongs c.joint_entry-joint.ensures))
+
+pub returns : goal.returns
+returns c =
+    let e = c.data_cell-cell.ensures in
+    let A = c.requires.accepted_with in
+    turned-altered (code_with c.args.plan.now c.args.h) A.formed _ c.requires.right_form c.args.position c.requires.position_bound A.conditions _ _
+    (rw (e.row, e.column) at c.turn.ensures) c.balance.ensures

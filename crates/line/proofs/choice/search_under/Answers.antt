@@ -1,0 +1,50 @@
+-- `line::choice::search_under` meets its contract: the trial is chosen where all tests are passed, and each way out before is where the plan has
+-- more cells or is refused. Assumes nothing.
+use mathlib.Core.Path.{ap}
+use Prim.Native.Nat.{◌*◌}
+use native.Mathlib.Nat.{mul-le-mul}
+use native.Mathlib.Omega.{arith}
+use Rattle.plan.specs.declared.header.Header.{Header}
+use Rattle.plan.specs.declared.verdict.Verdict.{Verdict}
+use Rattle.plan.specs.Bytes.{code_of}
+use Rattle.accept.proofs.Acceptance.{accepted-plan}
+use Rattle.line.proofs.Chosen.{chosen-trial, chosen-refused, chosen-large, chosen-tall, chosen-wide}
+use Rattle.line.proofs.choice.search_under.Goals as goal
+
+pub returns-then-plan-lt-LENGTH : goal.returns-then-plan-lt-LENGTH
+returns-then-plan-lt-LENGTH c = chosen-refused _ (λ z. omega (arith, (accepted-plan _ z).framed.long))
+
+pub returns-then-h-gt-SMALL : goal.returns-then-h-gt-SMALL
+unfolding code_of
+returns-then-h-gt-SMALL c =
+    let e = ap (λ (h : Header). h.n1) c.header_of-h.ensures in
+    chosen-tall _ (omega arith)
+
+pub returns-then-h-gt-SMALL-2 : goal.returns-then-h-gt-SMALL-2
+unfolding code_of
+returns-then-h-gt-SMALL-2 c =
+    let e = ap (λ (h : Header). h.n2) c.header_of-h.ensures in
+    chosen-wide _ (omega arith)
+
+pub returns-then-h-gt-SMALL-3 : goal.returns-then-h-gt-SMALL-3
+unfolding code_of
+returns-then-h-gt-SMALL-3 c =
+    let e = ap (λ (h : Header). h.n1 * h.n2) c.header_of-h.ensures in
+    chosen-large _ (omega arith)
+
+pub returns-then-tested-ne0 : goal.returns-then-tested-ne0
+returns-then-tested-ne0 c =
+    let n = ap (λ (v : Verdict). v.number) c.test-tested.ensures.verdict in
+    chosen-refused _ (λ z. omega (arith, c.if-tested-ne0.true))
+
+pub returns : goal.returns
+unfolding code_of
+returns c =
+    let n = ap (λ (v : Verdict). v.number) c.test-tested.ensures.verdict in
+    let e = ap (λ (h : Header). h.n1 * h.n2) c.header_of-h.ensures in
+    chosen-trial _ (omega arith) (omega arith)
+
+pub overflow_mul-h : goal.overflow_mul-h
+overflow_mul-h c =
+    let m = mul-le-mul c.if-h-gt-SMALL.false c.if-h-gt-SMALL-2.false in
+    omega arith

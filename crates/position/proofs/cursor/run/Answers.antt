@@ -1,0 +1,7 @@
+-- `position::cursor::run` meets its contract. Assumes nothing.
+use Rattle.position.specs.Walk.{run_length}
+use Rattle.position.proofs.cursor.run.Goals as goal
+
+pub returns : goal.returns
+unfolding run_length
+returns c = c.smaller.ensures

@@ -1,0 +1,22 @@
+-- `writer::balancing::balance` meets its contract: the check cells are turned over that bring the joint sum to 0. Assumes nothing.
+use Rattle.layout.proofs.Layouts.{in_size}
+use Rattle.plan.specs.Bytes.{code_with}
+use Rattle.writer.proofs.Balanced.{turned-written}
+use Rattle.writer.proofs.balancing.balance.Goals as goal
+
+pub check_digits-y-requires : goal.check_digits-y-requires
+check_digits-y-requires c =
+    let p = c.requires in
+    record { framed = p.accepted_with.framed; formed = p.accepted_with.formed; conditions = p.accepted_with.conditions; target_bound = p.joint_sum.below }
+
+pub turn_checks-requires : goal.turn_checks-requires
+turn_checks-requires c =
+    let a = c.args in
+    let p = c.requires in
+    record { framed = p.accepted_with.framed; formed = p.accepted_with.formed; sheet_len = in_size a.lay a.h.n1 a.h.n2 a.sheet.now p.form_in }
+
+pub returns : goal.returns
+returns c =
+    let A = c.requires.accepted_with in
+    turned-written c.args.lay (code_with c.args.plan.now c.args.h) A.formed A.conditions _ _ _ _ c.requires.form_in c.requires.joint_sum
+    c.check_digits-y.ensures c.turn_checks.ensures

@@ -1,0 +1,32 @@
+-- `writer::writing::write_sheet` meets its contract: the sheet that holds the data is brought up to date. Assumes nothing.
+use mathlib.Core.Path.{◌∙◌}
+use Rattle.layout.proofs.Layouts.{laws}
+use Rattle.boxcode.specs.Check.{data_size, fill}
+use Rattle.plan.specs.Bytes.{code_with}
+use Rattle.writer.specs.Write.{data_bits}
+use Rattle.writer.proofs.Balanced.{filled-written}
+use Rattle.writer.proofs.writing.write_sheet.Goals as goal
+
+pub put-requires : goal.put-requires
+put-requires c =
+    let p = c.requires in
+    record { framed = p.accepted_with.framed; formed = p.accepted_with.formed; bits_len = p.bits_len; sheet_len = p.sheet_len }
+
+pub joint_sum-sum-requires : goal.joint_sum-sum-requires
+joint_sum-sum-requires c =
+    let p = c.requires in
+    record { framed = p.accepted_with.framed; formed = p.accepted_with.formed; unpacked = p.unpacked; sheet_len = c.put.kept.1.1.1.1.0 ∙ p.sheet_len }
+
+pub balance-requires : goal.balance-requires
+balance-requires c =
+    let a = c.args in
+    let code = code_with a.plan.now a.h in
+    let filled = (laws a.lay a.h.n1 a.h.n2).form (fill code (data_bits (data_size code) a.bits.now) 0) in
+    record { accepted_with = c.requires.accepted_with; form_in = rw c.put.ensures filled; joint_sum = c.joint_sum-sum.ensures }
+
+pub returns : goal.returns
+returns c =
+    let A = c.requires.accepted_with in
+    let code = code_with c.args.plan.now c.args.h in
+    filled-written c.args.lay code A.formed A.conditions (data_bits (data_size code) c.args.bits.now) _ _
+    c.put.ensures c.balance.ensures
