@@ -2,4 +2,3 @@
 pub mod Sequence
 pub mod Framing
 pub mod Forming
-pub mod Walk

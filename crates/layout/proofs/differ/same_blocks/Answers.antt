@@ -28,7 +28,7 @@ pub loop-k-preserved : goal.loop-k-preserved
 loop-k-preserved c =
     let l = c.loop-k in
     let m = l.invariant.most in
-    block-next _ _ _ l.invariant (omega arith) (sym (not-false _ c.if-not-same_block.false) ∙ c.same_block.ensures)
+    block-next _ _ _ l.invariant (omega arith) (sym c.if-not-same_block.false ∙ c.same_block.ensures)
 
 pub returns : goal.returns
 returns c = c.loop-k.invariant

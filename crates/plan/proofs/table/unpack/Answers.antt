@@ -10,11 +10,8 @@ use Rattle.plan.specs.declared.table.Table.{Table}
 use Rattle.plan.specs.Bytes.{Weight}
 use Rattle.plan.specs.Table.{entry_of}
 use Rattle.plan.proofs.Framing.{table-room}
+use Rattle.plan.proofs.table.unpack.Invariants.{First}
 use Rattle.plan.proofs.table.unpack.Goals as goal
-
-record First (s : List ℕ) (h : Header) (t : Table) (k : ℕ) (words : List ℕ) : Type 0 where
-  size : length words ≡ 2792
-  entry : (j : ℕ) → j < k → Weight (entry_of s h t j) (get_or words j 0)
 
 -- one entry more is stored
 one_more : (s : List ℕ) (h : Header) (t : Table) (k : ℕ) (words : List ℕ) (x : ℕ) → k < 2792 → First s h t k words → Weight (entry_of s h t k) x
