@@ -35,7 +35,7 @@ pub loop-k-preserved : goal.loop-k-preserved
 loop-k-preserved c =
     let l = c.loop-k in
     let e = c.columns-table.ensures in
-    (omega arith, powers-stored _ _ _ _ _ (slice-write-words c) l.invariant.1 (entry _ l.k e (omega arith)))
+    (omega arith, powers-stored _ _ _ _ _ (bounds-words-k c) l.invariant.1 (entry _ l.k e (omega arith)))
 
 pub shape_of-words : goal.shape_of-words
 shape_of-words c = c.loop-k.invariant.1.size

@@ -15,7 +15,7 @@ only_zero-count-requires c =
 pub loop-k-init : goal.loop-k-init
 loop-k-init c =
     let z = c.only_zero-count in
-    let e : length z.new.0 ≡ length c.args.sums.now = search rules in
+    let e : length z.new.sums ≡ length c.args.sums.now = search rules in
     (omega arith, begun-start c.args.t (word_at c.args.words.now) c.args.first (e ∙ c.requires.long) z.ensures)
 
 pub overflow_add-first : goal.overflow_add-first

@@ -13,7 +13,7 @@ abbrev mark_at : List ℕ → List ℕ → ℕ → ℕ → Bool
 mark_at words marks k j = has_mark marks (word_at words j ⊕ word_at words k)
 
 abbrev pub invariant-loop-l : goal.invariant-loop-l
-invariant-loop-l l = ((j : ℕ) → l.l.from ≤ j → j < l.l → mark_at l.l.words l.l.marks l.l.k j ≡ false) × (l.l.from ≤ l.l) × (l.l ≤ l.l.k)
+invariant-loop-l l = ((j : ℕ) → l.from ≤ j → j < l.l → mark_at l.words l.marks l.k j ≡ false) × (l.from ≤ l.l) × (l.l ≤ l.k)
 
 abbrev pub decreases-loop-l : goal.decreases-loop-l
-decreases-loop-l l = l.l.k - l.l
+decreases-loop-l l = l.k - l.l

@@ -13,7 +13,7 @@ abbrev pair_at : List ℕ → List ℕ → ℕ → ℕ → Bool
 pair_at words sums k j = one_of sums (word_at words j ⊕ word_at words k)
 
 abbrev pub invariant-loop-l : goal.invariant-loop-l
-invariant-loop-l l = ((j : ℕ) → l.l.from ≤ j → j < l.l → pair_at l.l.words l.l.sums l.l.k j ≡ false) × (l.l.from ≤ l.l) × (l.l ≤ l.l.k)
+invariant-loop-l l = ((j : ℕ) → l.from ≤ j → j < l.l → pair_at l.words l.sums l.k j ≡ false) × (l.from ≤ l.l) × (l.l ≤ l.k)
 
 abbrev pub decreases-loop-l : goal.decreases-loop-l
-decreases-loop-l l = l.l.k - l.l
+decreases-loop-l l = l.k - l.l

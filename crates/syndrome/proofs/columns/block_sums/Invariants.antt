@@ -8,7 +8,7 @@ use Rattle.syndrome.proofs.columns.block_sums.Given as goal
 abbrev pub invariant-loop-j : goal.invariant-loop-j
 invariant-loop-j l =
     (l.j ≤ l.h.n2) × (l.count ≡ l.h.n2) × (l.q ≡ l.j % l.h.b2)
-    × Passed (tabled l.h l.rows l.columns) (by_column l.h.n1 l.h.n2 l.sheet) l.b l.j (record { l.row = l.row; l.column = l.column })
+    × Passed (tabled l.h l.rows l.columns) (by_column l.h.n1 l.h.n2 l.sheet) l.b l.j (record { row = l.row; column = l.column })
 
 abbrev pub decreases-loop-j : goal.decreases-loop-j
 decreases-loop-j l = l.h.n2 - l.j
