@@ -1,7 +1,6 @@
 use mathlib.Core.Path.{refl, sym, ◌∙◌}
 use Prim.Native.Nat.{◌-◌}
 use native.Mathlib.Omega.{arith}
-use borrow.Author.Tests.{not-true, not-false}
 use Rattle.accept.proofs.Pairing.{row_next, row-fails, row-end}
 use Rattle.accept.proofs.Shift.{window-in}
 use Rattle.accept.proofs.Remains.{row-left}
@@ -34,9 +33,9 @@ pub returns-then-not-pair_free : goal.returns-then-not-pair_free
 returns-then-not-pair_free c =
     let l = c.loop-j in
     row-left c.args.t c.args.words.now c.requires.0 c.prepare-taken.ensures
-    c.start_of_lem.ensures
+    c.start_of-j.ensures
     (l.invariant
-    ∙ row-fails _ _ _ l.j _ c.loop-j-test.true (sym c.pair_free.ensures ∙ not-true _ c.if-not-pair_free.true))
+    ∙ row-fails _ _ _ l.j _ c.loop-j-test.true (sym c.pair_free.ensures ∙ c.if-not-pair_free.true))
 
 pub overflow_step-j : goal.overflow_step-j
 overflow_step-j c = omega arith
@@ -47,10 +46,10 @@ loop-j-smaller c = omega arith
 pub loop-j-preserved : goal.loop-j-preserved
 loop-j-preserved c =
     let l = c.loop-j in
-    l.invariant ∙ row_next _ _ _ l.j _ c.loop-j-test.true (sym c.pair_free.ensures ∙ not-false _ c.if-not-pair_free.false)
+    l.invariant ∙ row_next _ _ _ l.j _ c.loop-j-test.true (sym c.pair_free.ensures ∙ c.if-not-pair_free.false)
 
 pub returns : goal.returns
 returns c =
     let l = c.loop-j in
     row-left c.args.t c.args.words.now c.requires.0 c.prepare-taken.ensures
-    c.start_of_lem.ensures (l.invariant ∙ row-end _ _ _ _ _ c.loop-j-test.false)
+    c.start_of-j.ensures (l.invariant ∙ row-end _ _ _ _ _ c.loop-j-test.false)

@@ -2,7 +2,6 @@ use mathlib.Core.Path.{◌≡◌, refl, sym, ap, ◌∙◌}
 use Prim.Native.Nat.{◌-◌, ◌*◌}
 use native.Mathlib.Nat.{mul-le-mul_right, sub-zero}
 use native.Mathlib.Omega.{arith}
-use borrow.Author.Tests.{not-true, not-false}
 use Rattle.accept.specs.Pairs.{from_row, first_failing}
 use Rattle.plan.specs.Table.{word_at}
 use Rattle.accept.specs.Windows.{windows_free, start_of}
@@ -34,7 +33,7 @@ pub loop-j-init : goal.loop-j-init
 loop-j-init c =
     let a = c.search in
     let l = c.search-test.true in
-    let e = c.start_of_lem.ensures in (
+    let e = c.start_of-j.ensures in (
       omega (arith, e, start-from c.args.t a.i),
       omega (arith, e, start-to c.args.t a.i),
       a.invariant.2,
@@ -65,13 +64,14 @@ loop-j-preserved c =
       omega arith,
       omega arith,
       l.invariant.2,
-      l.invariant.3 ∙ row_next _ _ _ l.j _ c.loop-j-test.true ((let tested-here : let s = c.args in
-    let i = c.search.i in
-    windows_free c.t (word_at c.words.now) c.step c.size i c.loop-j.j
-    ≡ c.pair_free.result = let l = c.loop-j in
-    c.prepare-taken.ensures.free (l.j * c.args.step) (mul-le-mul_right c.args.step l.invariant.0)
-    (window-in c.requires.0 l.j c.loop-j-test.true)
-    ∙ sym c.pair_free.ensures in tested-here) ∙ not-false _ c.if-not-pair_free.false),
+      l.invariant.3 ∙ row_next _ _ _ l.j _ c.loop-j-test.true ((let tested-here : let tested-ts = c.args in
+    let tested-ti = c.search.i in
+    windows_free tested-ts.t (word_at tested-ts.words.now) tested-ts.step tested-ts.size tested-ti c.loop-j.j
+    ≡ c.pair_free.result = let tested-s = c.before.before.before.before.before.before.before.before.before.before.before.before.before.before in
+    let tested-l = c.loop-j in
+    c.prepare-taken.ensures.free (tested-l.j * tested-s.args.step) (mul-le-mul_right tested-s.args.step tested-l.invariant.0)
+    (window-in tested-s.requires.0 tested-l.j c.loop-j-test.true)
+    ∙ sym c.pair_free.ensures in tested-here) ∙ c.if-not-pair_free.false),
     )
 
 pub overflow_step-i : goal.overflow_step-i
@@ -93,10 +93,11 @@ returns-after-search c = c.search.invariant.2 ∙ sym (c.search.invariant.3 ∙ 
 pub returns-then-not-pair_free : goal.returns-then-not-pair_free
 returns-then-not-pair_free c =
     let l = c.loop-j in
-    sym (l.invariant.3 ∙ row-fails _ _ _ l.j _ c.loop-j-test.true ((let tested-here : let s = c.args in
-    let i = c.search.i in
-    windows_free c.t (word_at c.words.now) c.step c.size i c.loop-j.j
-    ≡ c.pair_free.result = let l = c.loop-j in
-    c.prepare-taken.ensures.free (l.j * c.args.step) (mul-le-mul_right c.args.step l.invariant.0)
-    (window-in c.requires.0 l.j c.loop-j-test.true)
-    ∙ sym c.pair_free.ensures in tested-here) ∙ not-true _ c.if-not-pair_free.true))
+    sym (l.invariant.3 ∙ row-fails _ _ _ l.j _ c.loop-j-test.true ((let tested-here : let tested-ts = c.args in
+    let tested-ti = c.search.i in
+    windows_free tested-ts.t (word_at tested-ts.words.now) tested-ts.step tested-ts.size tested-ti c.loop-j.j
+    ≡ c.pair_free.result = let tested-s = c.before.before.before.before.before.before.before.before.before.before.before.before.before.before in
+    let tested-l = c.loop-j in
+    c.prepare-taken.ensures.free (tested-l.j * tested-s.args.step) (mul-le-mul_right tested-s.args.step tested-l.invariant.0)
+    (window-in tested-s.requires.0 tested-l.j c.loop-j-test.true)
+    ∙ sym c.pair_free.ensures in tested-here) ∙ c.if-not-pair_free.true))

@@ -10,10 +10,10 @@ use Rattle.line.proofs.Lines.{parts-fit, zeros-part, rest_part, line_made}
 use Rattle.line.proofs.whole.line.Goals as goal
 
 pub slice_bounds-plan-end : goal.slice_bounds-plan-end
-slice_bounds-plan-end c = sym (length-take-le _ _ ((let fits-here : c.plan_size-n.result ≤ length c.args.input.now = let p = parts-fit c.args.input.now in omega (arith, c.plan_size-n.ensures) in fits-here)))
+slice_bounds-plan-end c = sym (length-take-le _ _ ((let fits-here : c.plan_size-n.result ≤ length c.args.input.now = let fits-p = parts-fit c.args.input.now in omega (arith, c.plan_size-n.ensures) in fits-here)))
 
 pub slice_bounds-copy-count : goal.slice_bounds-copy-count
-slice_bounds-copy-count c = (let fits-here : c.plan_size-n.result ≤ length c.args.input.now = let p = parts-fit c.args.input.now in omega (arith, c.plan_size-n.ensures) in fits-here)
+slice_bounds-copy-count c = (let fits-here : c.plan_size-n.result ≤ length c.args.input.now = let fits-p = parts-fit c.args.input.now in omega (arith, c.plan_size-n.ensures) in fits-here)
 
 pub slice_bounds-read_line-end-2 : goal.slice_bounds-read_line-end-2
 slice_bounds-read_line-end-2 c =

@@ -19,8 +19,8 @@ offsets_verdict-offsets-requires c = rw (c.ruled.ensures, c.numbers-h.ensures) (
 
 pub returns-then-offsets-ne0 : goal.returns-then-offsets-ne0
 returns-then-offsets-ne0 c =
-    at-offsets _ _ ((let sized-here : (sizes_verdict (numbers_of c.args.g)).number ≡ 0 = same-zero ((let sizes-here : c.sizes_verdict-sizes.result ≡ sizes_verdict (numbers_of c.args.g) = c.sizes_verdict-sizes.ensures ∙ ap sizes_verdict c.numbers-h.ensures in sizes-here)) c.if-sizes-ne0.false in sized-here)) ((let offsets-here : let a = c.args in
-    c.offsets_verdict-offsets.result ≡ offsets_verdict a.size (header_for a.g) = c.offsets_verdict-offsets.ensures ∙ ap (offsets_verdict _) (c.ruled.ensures ∙ ap ruled c.numbers-h.ensures) in offsets-here)) c.if-offsets-ne0.true
+    at-offsets _ _ ((let sized-here : (sizes_verdict (numbers_of c.args.g)).number ≡ 0 = same-zero ((let sizes-here : c.sizes_verdict-sizes.result ≡ sizes_verdict (numbers_of c.args.g) = c.sizes_verdict-sizes.ensures ∙ ap sizes_verdict c.numbers-h.ensures in sizes-here)) c.if-sizes-ne0.false in sized-here)) ((let offsets-here : let offsets-ta = c.args in
+    c.offsets_verdict-offsets.result ≡ offsets_verdict offsets-ta.size (header_for offsets-ta.g) = c.offsets_verdict-offsets.ensures ∙ ap (offsets_verdict _) (c.ruled.ensures ∙ ap ruled c.numbers-h.ensures) in offsets-here)) c.if-offsets-ne0.true
 
 pub bad_polynomial-requires : goal.bad_polynomial-requires
 unfolding ruled
@@ -34,5 +34,5 @@ pub returns : goal.returns
 unfolding polynomials_verdict
 returns c =
     rw (c.refuse_if.ensures, c.bad_polynomial.ensures, c.bad_polynomial-2.ensures)
-    (at-polynomials _ _ ((let sized-here : (sizes_verdict (numbers_of c.args.g)).number ≡ 0 = same-zero ((let sizes-here : c.sizes_verdict-sizes.result ≡ sizes_verdict (numbers_of c.args.g) = c.sizes_verdict-sizes.ensures ∙ ap sizes_verdict c.numbers-h.ensures in sizes-here)) c.if-sizes-ne0.false in sized-here)) ((let framed-here : let a = c.args in (offsets_verdict a.size (header_for a.g)).number ≡ 0 = same-zero ((let offsets-here : let a = c.args in
-    c.offsets_verdict-offsets.result ≡ offsets_verdict a.size (header_for a.g) = c.offsets_verdict-offsets.ensures ∙ ap (offsets_verdict _) (c.ruled.ensures ∙ ap ruled c.numbers-h.ensures) in offsets-here)) c.if-offsets-ne0.false in framed-here)))
+    (at-polynomials _ _ ((let sized-here : (sizes_verdict (numbers_of c.args.g)).number ≡ 0 = same-zero ((let sizes-here : c.sizes_verdict-sizes.result ≡ sizes_verdict (numbers_of c.args.g) = c.sizes_verdict-sizes.ensures ∙ ap sizes_verdict c.numbers-h.ensures in sizes-here)) c.if-sizes-ne0.false in sized-here)) ((let framed-here : let framed-ta = c.args in (offsets_verdict framed-ta.size (header_for framed-ta.g)).number ≡ 0 = same-zero ((let offsets-here : let offsets-ta = c.args in
+    c.offsets_verdict-offsets.result ≡ offsets_verdict offsets-ta.size (header_for offsets-ta.g) = c.offsets_verdict-offsets.ensures ∙ ap (offsets_verdict _) (c.ruled.ensures ∙ ap ruled c.numbers-h.ensures) in offsets-here)) c.if-offsets-ne0.false in framed-here)))

@@ -43,73 +43,109 @@ sweep-left-requires c = tt
 
 pub offset_bounds-words-count : goal.offset_bounds-words-count
 offset_bounds-words-count c =
-    omega (arith, ((let below-here : (c.loop-j.j < c.args.h.n2) × (c.loop-j.count < 64) = let p = c.requires.small in
-    let t = taken_more c.loop-j.j c.args.h.n2 c.loop-j.count _ c.loop-j-test.true in
-    (t.0, omega (arith, t.1, p.rv-most, p.rh-most)) in below-here)).1)
+    omega (arith, ((let below-here : let below-tl = c.before.before.before.before.before in
+    let below-ts = below-tl.before.before.before.before.before.before.before.before in
+    (below-tl.loop.j < below-ts.args.h.n2) × (below-tl.loop.count < 64) = let below-l = c.before.before.before.before.before in
+    let below-s = below-l.before.before.before.before.before.before.before.before in
+    let below-p = below-s.requires.0 in
+    let below-t = taken_more below-l.loop.j below-s.args.h.n2 below-l.loop.count _ c.loop-j-test.true in
+    (below-t.0, omega (arith, below-t.1, below-p.rv-most, below-p.rh-most)) in below-here)).1)
 
 pub bounds-words-count : goal.bounds-words-count
 bounds-words-count c =
-    omega (arith, ((let below-here : (c.loop-j.j < c.args.h.n2) × (c.loop-j.count < 64) = let p = c.requires.small in
-    let t = taken_more c.loop-j.j c.args.h.n2 c.loop-j.count _ c.loop-j-test.true in
-    (t.0, omega (arith, t.1, p.rv-most, p.rh-most)) in below-here)).1)
+    omega (arith, ((let below-here : let below-tl = c.before.before.before.before.before in
+    let below-ts = below-tl.before.before.before.before.before.before.before.before in
+    (below-tl.loop.j < below-ts.args.h.n2) × (below-tl.loop.count < 64) = let below-l = c.before.before.before.before.before in
+    let below-s = below-l.before.before.before.before.before.before.before.before in
+    let below-p = below-s.requires.0 in
+    let below-t = taken_more below-l.loop.j below-s.args.h.n2 below-l.loop.count _ c.loop-j-test.true in
+    (below-t.0, omega (arith, below-t.1, below-p.rv-most, below-p.rh-most)) in below-here)).1)
 
 pub overflow_add-cells : goal.overflow_add-cells
 overflow_add-cells c =
     let p = c.requires.small in
     let m : c.args.i ≤ 512 = omega (arith, c.requires.i_lt_n1, p.n1-most) in
-    omega (arith, mul-le-mul m p.n2-most, ((let below-here : (c.loop-j.j < c.args.h.n2) × (c.loop-j.count < 64) = let p = c.requires.small in
-    let t = taken_more c.loop-j.j c.args.h.n2 c.loop-j.count _ c.loop-j-test.true in
-    (t.0, omega (arith, t.1, p.rv-most, p.rh-most)) in below-here)).0, p.n2-most)
+    omega (arith, mul-le-mul m p.n2-most, ((let below-here : let below-tl = c.before.before.before.before.before in
+    let below-ts = below-tl.before.before.before.before.before.before.before.before in
+    (below-tl.loop.j < below-ts.args.h.n2) × (below-tl.loop.count < 64) = let below-l = c.before.before.before.before.before in
+    let below-s = below-l.before.before.before.before.before.before.before.before in
+    let below-p = below-s.requires.0 in
+    let below-t = taken_more below-l.loop.j below-s.args.h.n2 below-l.loop.count _ c.loop-j-test.true in
+    (below-t.0, omega (arith, below-t.1, below-p.rv-most, below-p.rh-most)) in below-here)).0, p.n2-most)
 
 pub offset_bounds-cells-count : goal.offset_bounds-cells-count
 offset_bounds-cells-count c =
-    omega (arith, ((let below-here : (c.loop-j.j < c.args.h.n2) × (c.loop-j.count < 64) = let p = c.requires.small in
-    let t = taken_more c.loop-j.j c.args.h.n2 c.loop-j.count _ c.loop-j-test.true in
-    (t.0, omega (arith, t.1, p.rv-most, p.rh-most)) in below-here)).1)
+    omega (arith, ((let below-here : let below-tl = c.before.before.before.before.before in
+    let below-ts = below-tl.before.before.before.before.before.before.before.before in
+    (below-tl.loop.j < below-ts.args.h.n2) × (below-tl.loop.count < 64) = let below-l = c.before.before.before.before.before in
+    let below-s = below-l.before.before.before.before.before.before.before.before in
+    let below-p = below-s.requires.0 in
+    let below-t = taken_more below-l.loop.j below-s.args.h.n2 below-l.loop.count _ c.loop-j-test.true in
+    (below-t.0, omega (arith, below-t.1, below-p.rv-most, below-p.rh-most)) in below-here)).1)
 
 pub bounds-cells-count : goal.bounds-cells-count
 bounds-cells-count c =
-    omega (arith, ((let below-here : (c.loop-j.j < c.args.h.n2) × (c.loop-j.count < 64) = let p = c.requires.small in
-    let t = taken_more c.loop-j.j c.args.h.n2 c.loop-j.count _ c.loop-j-test.true in
-    (t.0, omega (arith, t.1, p.rv-most, p.rh-most)) in below-here)).1)
+    omega (arith, ((let below-here : let below-tl = c.before.before.before.before.before in
+    let below-ts = below-tl.before.before.before.before.before.before.before.before in
+    (below-tl.loop.j < below-ts.args.h.n2) × (below-tl.loop.count < 64) = let below-l = c.before.before.before.before.before in
+    let below-s = below-l.before.before.before.before.before.before.before.before in
+    let below-p = below-s.requires.0 in
+    let below-t = taken_more below-l.loop.j below-s.args.h.n2 below-l.loop.count _ c.loop-j-test.true in
+    (below-t.0, omega (arith, below-t.1, below-p.rv-most, below-p.rh-most)) in below-here)).1)
 
 pub more_taken-count-requires : goal.more_taken-count-requires
 more_taken-count-requires c = tt
 
 pub overflow_add-count : goal.overflow_add-count
 overflow_add-count c =
-    omega (arith, ((let below-here : (c.loop-j.j < c.args.h.n2) × (c.loop-j.count < 64) = let p = c.requires.small in
-    let t = taken_more c.loop-j.j c.args.h.n2 c.loop-j.count _ c.loop-j-test.true in
-    (t.0, omega (arith, t.1, p.rv-most, p.rh-most)) in below-here)).1, c.more_taken-count.ensures.1)
+    omega (arith, ((let below-here : let below-tl = c.before.before.before.before.before.before in
+    let below-ts = below-tl.before.before.before.before.before.before.before.before in
+    (below-tl.loop.j < below-ts.args.h.n2) × (below-tl.loop.count < 64) = let below-l = c.before.before.before.before.before.before in
+    let below-s = below-l.before.before.before.before.before.before.before.before in
+    let below-p = below-s.requires.0 in
+    let below-t = taken_more below-l.loop.j below-s.args.h.n2 below-l.loop.count _ c.loop-j-test.true in
+    (below-t.0, omega (arith, below-t.1, below-p.rv-most, below-p.rh-most)) in below-here)).1, c.more_taken-count.ensures.1)
 
 pub after-along-requires : goal.after-along-requires
 after-along-requires c = rw c.loop-j.invariant.1 (mod-lt c.loop-j.j c.requires.small.b2-pos)
 
 pub overflow_add-j : goal.overflow_add-j
 overflow_add-j c =
-    omega (arith, ((let below-here : (c.loop-j.j < c.args.h.n2) × (c.loop-j.count < 64) = let p = c.requires.small in
-    let t = taken_more c.loop-j.j c.args.h.n2 c.loop-j.count _ c.loop-j-test.true in
-    (t.0, omega (arith, t.1, p.rv-most, p.rh-most)) in below-here)).0)
+    omega (arith, ((let below-here : let below-tl = c.before.before.before.before.before.before.before in
+    let below-ts = below-tl.before.before.before.before.before.before.before.before in
+    (below-tl.loop.j < below-ts.args.h.n2) × (below-tl.loop.count < 64) = let below-l = c.before.before.before.before.before.before.before in
+    let below-s = below-l.before.before.before.before.before.before.before.before in
+    let below-p = below-s.requires.0 in
+    let below-t = taken_more below-l.loop.j below-s.args.h.n2 below-l.loop.count _ c.loop-j-test.true in
+    (below-t.0, omega (arith, below-t.1, below-p.rv-most, below-p.rh-most)) in below-here)).0)
 
 pub loop-j-smaller : goal.loop-j-smaller
 loop-j-smaller c =
-    omega (arith, ((let below-here : (c.loop-j.j < c.args.h.n2) × (c.loop-j.count < 64) = let p = c.requires.small in
-    let t = taken_more c.loop-j.j c.args.h.n2 c.loop-j.count _ c.loop-j-test.true in
-    (t.0, omega (arith, t.1, p.rv-most, p.rh-most)) in below-here)).0)
+    omega (arith, ((let below-here : let below-tl = c.before.before.before.before.before.before.before in
+    let below-ts = below-tl.before.before.before.before.before.before.before.before in
+    (below-tl.loop.j < below-ts.args.h.n2) × (below-tl.loop.count < 64) = let below-l = c.before.before.before.before.before.before.before in
+    let below-s = below-l.before.before.before.before.before.before.before.before in
+    let below-p = below-s.requires.0 in
+    let below-t = taken_more below-l.loop.j below-s.args.h.n2 below-l.loop.count _ c.loop-j-test.true in
+    (below-t.0, omega (arith, below-t.1, below-p.rv-most, below-p.rh-most)) in below-here)).0)
 
 pub loop-j-preserved : goal.loop-j-preserved
 loop-j-preserved c =
     let l = c.loop-j in
     let a = c.args in
-    let t = (let below-here : (c.loop-j.j < c.args.h.n2) × (c.loop-j.count < 64) = let p = c.requires.small in
-    let t = taken_more c.loop-j.j c.args.h.n2 c.loop-j.count _ c.loop-j-test.true in
-    (t.0, omega (arith, t.1, p.rv-most, p.rh-most)) in below-here) in
-    let m = taken_more c.j a.h.n2 c.count _ c.loop-j-test.true in
-    let e = c.joint-entry.ensures ∙ sym (cell-joint _ a.i c.j t.0) in (
+    let t = (let below-here : let below-tl = r.before.before.before.before.before in
+    let below-ts = below-tl.before.before.before.before.before.before.before.before in
+    (below-tl.loop.j < below-ts.args.h.n2) × (below-tl.loop.count < 64) = let below-l = r.before.before.before.before.before in
+    let below-s = below-l.before.before.before.before.before.before.before.before in
+    let below-p = below-s.requires.0 in
+    let below-t = taken_more below-l.loop.j below-s.args.h.n2 below-l.loop.count _ c.loop-j-test.true in
+    (below-t.0, omega (arith, below-t.1, below-p.rv-most, below-p.rh-most)) in below-here) in
+    let m = taken_more l.j a.h.n2 l.count _ c.loop-j-test.true in
+    let e = c.joint-entry.ensures ∙ sym (cell-joint _ a.i l.j t.0) in (
       omega (arith, t.0),
-      c.after-along.ensures ∙ rw c.invariant.1 (mod-add-mod c.j a.h.b2 1),
-      rw (← add_assoc (a.i * a.h.n2) c.j 1, c.more_taken-count.ensures.0)
-          (taken_step _ _ _ _ _ _ c.invariant.2 _ m.1 t.1 (c.sweep-left.ensures ∙ ap (swept (take c.count c.words-1)) e)),
+      c.after-along.ensures ∙ rw l.invariant.1 (mod-add-mod l.j a.h.b2 1),
+      rw (← add_assoc (a.i * a.h.n2) l.j 1, c.more_taken-count.ensures.0)
+          (taken_step _ _ _ _ _ _ l.invariant.2 _ m.1 t.1 (c.sweep-left.ensures ∙ ap (swept (take l.count l.words)) e)),
     )
 
 pub returns : goal.returns

@@ -6,7 +6,7 @@ use Rattle.finite.specs.Search.{bit}
 use Rattle.mend.proofs.report.any_digit.Given as goal
 
 abbrev pub invariant-loop-l : goal.invariant-loop-l
-invariant-loop-l l = (l.l ≤ l.l.count) × (l.l.k ≡ l.l.from + l.l * l.l.step) × ((j : ℕ) → j < l.l → bit l.l.x (l.l.from + j * l.l.step) ≡ false)
+invariant-loop-l l = (l.l ≤ l.count) × (l.k ≡ l.from + l.l * l.step) × ((j : ℕ) → j < l.l → bit l.x (l.from + j * l.step) ≡ false)
 
 abbrev pub decreases-loop-l : goal.decreases-loop-l
-decreases-loop-l l = l.l.count - l.l
+decreases-loop-l l = l.count - l.l

@@ -16,9 +16,9 @@ overflow_sub-k c = omega arith
 
 pub overflow_mul-y : goal.overflow_mul-y
 overflow_mul-y c =
-    let y = (let low-here : c.loop-k.y < 65536 = let a = c.args in
-    let b = digits-below _ c.loop-k.k (laid_digit a.b2 a.a a.x) (box-size c.requires.burst_size) in
-    let e = c.loop-k.invariant.1 in
+    let y = (let low-here : c.loop-k.y < 65536 = let low-a = c.args in
+    let low-b = digits-below _ c.loop-k.k (laid_digit low-a.b2 low-a.a low-a.x) (box-size c.requires.burst_size) in
+    let low-e = c.loop-k.invariant.1 in
     omega arith in low-here) in omega arith
 
 pub laid_digit-requires : goal.laid_digit-requires
@@ -27,9 +27,9 @@ laid_digit-requires c = omega (arith, box-size c.requires.burst_size)
 pub overflow_add-y : goal.overflow_add-y
 overflow_add-y c =
     let a = c.args in
-    let y = (let low-here : c.loop-k.y < 65536 = let a = c.args in
-    let b = digits-below _ c.loop-k.k (laid_digit a.b2 a.a a.x) (box-size c.requires.burst_size) in
-    let e = c.loop-k.invariant.1 in
+    let y = (let low-here : c.loop-k.y < 65536 = let low-a = c.args in
+    let low-b = digits-below _ c.loop-k.k (laid_digit low-a.b2 low-a.a low-a.x) (box-size c.requires.burst_size) in
+    let low-e = c.loop-k.invariant.1 in
     omega arith in low-here) in
     let d = digit-most (laid_digit a.b2 a.a a.x (c.loop-k.k - 1)) _ c.laid_digit.ensures in
     omega arith

@@ -40,18 +40,18 @@ overflow_add-first c = let l = (let remainder-here : c.loop-d.t < c.args.b2 = rw
 
 pub offset_bounds-columns-at : goal.offset_bounds-columns-at
 offset_bounds-columns-at c =
-    let l = (let place-here : (c.loop-d.at < length c.args.columns.now) × (c.loop-d.at ≤ 2812) = let a = c.args in
-    let w = c.loop-d in
-    let l : (a.a + w.d) * a.b1 + a.u < (a.a + a.b2) * a.b1 = digits_lt (omega arith) (omega arith) in
-    let m = columns-most a.a a.b2 a.b1 (omega arith) (omega arith) (omega arith) in
+    let l = (let place-here : (c.loop-d.at < length c.args.columns.now) × (c.loop-d.at ≤ 2812) = let place-a = c.args in
+    let place-w = c.loop-d in
+    let place-l : (place-a.a + place-w.d) * place-a.b1 + place-a.u < (place-a.a + place-a.b2) * place-a.b1 = digits_lt (omega arith) (omega arith) in
+    let place-m = columns-most place-a.a place-a.b2 place-a.b1 (omega arith) (omega arith) (omega arith) in
     omega arith in place-here) in omega arith
 
 pub bounds-columns-at : goal.bounds-columns-at
 bounds-columns-at c =
-    ((let place-here : (c.loop-d.at < length c.args.columns.now) × (c.loop-d.at ≤ 2812) = let a = c.args in
-    let w = c.loop-d in
-    let l : (a.a + w.d) * a.b1 + a.u < (a.a + a.b2) * a.b1 = digits_lt (omega arith) (omega arith) in
-    let m = columns-most a.a a.b2 a.b1 (omega arith) (omega arith) (omega arith) in
+    ((let place-here : (c.loop-d.at < length c.args.columns.now) × (c.loop-d.at ≤ 2812) = let place-a = c.args in
+    let place-w = c.loop-d in
+    let place-l : (place-a.a + place-w.d) * place-a.b1 + place-a.u < (place-a.a + place-a.b2) * place-a.b1 = digits_lt (omega arith) (omega arith) in
+    let place-m = columns-most place-a.a place-a.b2 place-a.b1 (omega arith) (omega arith) (omega arith) in
     omega arith in place-here)).0
 
 pub picked-sum-requires : goal.picked-sum-requires
@@ -62,10 +62,10 @@ after-t-requires c = (let remainder-here : c.loop-d.t < c.args.b2 = rw c.loop-d.
 
 pub overflow_add-at-in-loop-d : goal.overflow_add-at-in-loop-d
 overflow_add-at-in-loop-d c =
-    let l = (let place-here : (c.loop-d.at < length c.args.columns.now) × (c.loop-d.at ≤ 2812) = let a = c.args in
-    let w = c.loop-d in
-    let l : (a.a + w.d) * a.b1 + a.u < (a.a + a.b2) * a.b1 = digits_lt (omega arith) (omega arith) in
-    let m = columns-most a.a a.b2 a.b1 (omega arith) (omega arith) (omega arith) in
+    let l = (let place-here : (c.loop-d.at < length c.args.columns.now) × (c.loop-d.at ≤ 2812) = let place-a = c.args in
+    let place-w = c.loop-d in
+    let place-l : (place-a.a + place-w.d) * place-a.b1 + place-a.u < (place-a.a + place-a.b2) * place-a.b1 = digits_lt (omega arith) (omega arith) in
+    let place-m = columns-most place-a.a place-a.b2 place-a.b1 (omega arith) (omega arith) (omega arith) in
     omega arith in place-here) in omega arith
 
 pub overflow_add-d : goal.overflow_add-d

@@ -1,26 +1,16 @@
 use mathlib.Core.Path.{refl, sym, ap, ◌∙◌}
-use mathlib.Core.List.{List}
-use Prim.Native.Nat.{ℕ, ◌-◌}
+use Prim.Native.Nat.{◌-◌}
 use native.Mathlib.Omega.{arith}
 use lib.ListN.{length}
-use Rattle.layout.specs.Cells.{cell_of}
 use Rattle.layout.proofs.Layouts.{bytes-size}
-use Rattle.boxcode.specs.Check.{Bits, data_size}
+use Rattle.boxcode.specs.Check.{data_size}
 use Rattle.boxcode.proofs.Check.{sheet-cells, checks-fit}
-use Rattle.boxcode.specs.Syndrome.{Cells}
-use Rattle.plan.specs.declared.header.Header.{Header}
 use Rattle.plan.specs.Bytes.{code_with}
 use Rattle.position.proofs.Stand.{at_most, at_ahead, past_end}
 use Rattle.payload.proofs.Run.{reaches}
-use Rattle.payload.proofs.Progress.{put_to, put_first, put_step, put_all}
+use Rattle.payload.proofs.Progress.{put_first, put_step, put_all}
+use Rattle.payload.proofs.transfer.put.Invariants.{data_in, cells_to}
 use Rattle.payload.proofs.transfer.put.Goals as goal
-
--- the data, and what of it is put before cell number t, as cells
-abbrev data_in : List ℕ → Header → List ℕ → Bits
-data_in plan h bits d = cell_of (data_size (code_with plan h)) bits 0 d
-
-abbrev cells_to : List ℕ → Header → List ℕ → ℕ → Cells
-cells_to plan h bits t = put_to (code_with plan h) (data_in plan h bits) t
 
 pub overflow_mul-k : goal.overflow_mul-k
 overflow_mul-k c = let s = c.requires.framed.small in omega (arith, sheet-cells s.n1-most s.n2-most)

@@ -2,8 +2,9 @@
 use mathlib.Core.Path.{◌≡◌}
 use mathlib.Core.List.{List}
 use Prim.Native.Nat.{ℕ, ◌+◌, ◌-◌, ◌*◌}
+use Rattle.layout.specs.Cells.{cell_of}
 use Rattle.layout.specs.Stored.{bytes_in}
-use Rattle.boxcode.specs.Check.{data_size}
+use Rattle.boxcode.specs.Check.{Bits, data_size}
 use Rattle.boxcode.specs.Syndrome.{Cells}
 use Rattle.plan.specs.declared.header.Header.{Header}
 use Rattle.plan.specs.Bytes.{code_with}
@@ -11,7 +12,11 @@ use Rattle.position.specs.Walk.{At}
 use Rattle.payload.proofs.Progress.{put_to}
 use Rattle.payload.proofs.transfer.put.Given as goal
 
-abbrev cells_to : List ℕ → Header → List ℕ → ℕ → Cells
+-- the data, and what of it is put before cell number t, as cells
+abbrev pub data_in : List ℕ → Header → List ℕ → Bits
+data_in plan h bits d = cell_of (data_size (code_with plan h)) bits 0 d
+
+abbrev pub cells_to : List ℕ → Header → List ℕ → ℕ → Cells
 cells_to plan h bits t = put_to (code_with plan h) (data_in plan h bits) t
 
 abbrev pub invariant-loop-at : goal.invariant-loop-at

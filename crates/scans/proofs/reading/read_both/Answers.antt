@@ -1,6 +1,5 @@
 -- `scans::reading::read_both` meets its contract: the data buffer is written only where the mended sheets agree. Assumes nothing.
 use mathlib.Core.Path.{◌≡◌, ap₂, ◌∙◌}
-use borrow.Author.Tests.{not-true, not-false}
 use Rattle.layout.specs.Differ.{agree}
 use Rattle.layout.specs.declared.stored.Layout.TheVariants.{ByRow}
 use Rattle.plan.specs.Bytes.{code_with}
@@ -12,15 +11,15 @@ use Rattle.scans.proofs.reading.read_both.Goals as goal
 
 pub returns-then-not-mended_agree : goal.returns-then-not-mended_agree
 returns-then-not-mended_agree c =
-    rw c.refuse.ensures (decide-differ _ _ _ _ _ _ _ ((let same-here : let a = c.args in
-    let k = code_with a.plan.now a.h in
-    agree (bits_read ByRow k a.first.now) (bits_read ByRow k a.second.now) ≡ c.mended_agree.result = let p = c.requires in
-    agree-found _ p.accepted_with.formed p.accepted_with.conditions _ p.right_form _ _ _ p.fact _ p.right_form_2 _ _ _ p.fact_2 _ c.mended_agree.ensures in same-here) ∙ not-true _ c.if-not-mended_agree.true))
+    rw c.refuse.ensures (decide-differ _ _ _ _ _ _ _ ((let same-here : let same-ta = c.args in
+    let same-tk = code_with same-ta.plan.now same-ta.h in
+    agree (bits_read ByRow same-tk same-ta.first.now) (bits_read ByRow same-tk same-ta.second.now) ≡ c.mended_agree.result = let same-p = c.requires in
+    agree-found _ same-p.0.formed same-p.0.conditions _ same-p.1.0 _ _ _ same-p.1.1.0 _ same-p.1.1.1.0 _ _ _ same-p.1.1.1.1.0 _ c.mended_agree.ensures in same-here) ∙ c.if-not-mended_agree.true))
 
 pub returns : goal.returns
 returns c =
     ap₂ two_read c.accept.ensures c.take_mended.ensures
-    ∙ decide-agree _ _ _ _ _ _ _ ((let same-here : let a = c.args in
-    let k = code_with a.plan.now a.h in
-    agree (bits_read ByRow k a.first.now) (bits_read ByRow k a.second.now) ≡ c.mended_agree.result = let p = c.requires in
-    agree-found _ p.accepted_with.formed p.accepted_with.conditions _ p.right_form _ _ _ p.fact _ p.right_form_2 _ _ _ p.fact_2 _ c.mended_agree.ensures in same-here) ∙ not-false _ c.if-not-mended_agree.false)
+    ∙ decide-agree _ _ _ _ _ _ _ ((let same-here : let same-ta = c.args in
+    let same-tk = code_with same-ta.plan.now same-ta.h in
+    agree (bits_read ByRow same-tk same-ta.first.now) (bits_read ByRow same-tk same-ta.second.now) ≡ c.mended_agree.result = let same-p = c.requires in
+    agree-found _ same-p.0.formed same-p.0.conditions _ same-p.1.0 _ _ _ same-p.1.1.0 _ same-p.1.1.1.0 _ _ _ same-p.1.1.1.1.0 _ c.mended_agree.ensures in same-here) ∙ c.if-not-mended_agree.false)

@@ -1,17 +1,11 @@
 use mathlib.Core.Path.{sym, ◌∙◌}
-use mathlib.Core.Bool.{Bool, false}
-use mathlib.Core.List.{List}
-use Prim.Native.Nat.{ℕ, ◌-◌}
+use mathlib.Core.Bool.{false}
+use Prim.Native.Nat.{◌-◌}
 use native.Mathlib.Omega.{arith}
 use Rattle.gf2.specs.Xor.{◌⊕◌}
-use Rattle.plan.specs.Table.{word_at}
-use Rattle.sparse.specs.Sets.{has_mark}
 use Rattle.sparse.proofs.Marks.{run_none, run_more}
+use Rattle.sparse.proofs.hits.next_marked.Invariants.{mark_at}
 use Rattle.sparse.proofs.hits.next_marked.Goals as goal
-
--- places j and k
-abbrev mark_at : List ℕ → List ℕ → ℕ → ℕ → Bool
-mark_at words marks k j = has_mark marks (word_at words j ⊕ word_at words k)
 
 pub offset_bounds-words-k : goal.offset_bounds-words-k
 offset_bounds-words-k c = omega arith

@@ -9,7 +9,7 @@ use Rattle.sparse.specs.Sets.{has_mark}
 use Rattle.sparse.proofs.hits.next_marked.Given as goal
 
 -- places j and k
-abbrev mark_at : List ℕ → List ℕ → ℕ → ℕ → Bool
+abbrev pub mark_at : List ℕ → List ℕ → ℕ → ℕ → Bool
 mark_at words marks k j = has_mark marks (word_at words j ⊕ word_at words k)
 
 abbrev pub invariant-loop-l : goal.invariant-loop-l

@@ -1,17 +1,11 @@
 use mathlib.Core.Path.{sym, ◌∙◌}
-use mathlib.Core.Bool.{Bool, false}
-use mathlib.Core.List.{List}
-use Prim.Native.Nat.{ℕ, ◌-◌}
+use mathlib.Core.Bool.{false}
+use Prim.Native.Nat.{◌-◌}
 use native.Mathlib.Omega.{arith}
 use Rattle.gf2.specs.Xor.{◌⊕◌}
-use Rattle.plan.specs.Table.{word_at}
-use Rattle.sparse.specs.Sets.{one_of}
 use Rattle.sparse.proofs.Marks.{unmarked, run_join, run-here, run_past}
+use Rattle.sparse.proofs.hits.pair_hits.Invariants.{pair_at}
 use Rattle.sparse.proofs.hits.pair_hits.Goals as goal
-
--- places j and k
-abbrev pair_at : List ℕ → List ℕ → ℕ → ℕ → Bool
-pair_at words sums k j = one_of sums (word_at words j ⊕ word_at words k)
 
 pub next_marked-l-requires : goal.next_marked-l-requires
 next_marked-l-requires c = (c.requires.from_le_k.0, c.requires.from_le_k.1, c.requires.marked.size)

@@ -9,7 +9,7 @@ use Rattle.sparse.specs.Sets.{one_of}
 use Rattle.sparse.proofs.hits.pair_hits.Given as goal
 
 -- places j and k
-abbrev pair_at : List ℕ → List ℕ → ℕ → ℕ → Bool
+abbrev pub pair_at : List ℕ → List ℕ → ℕ → ℕ → Bool
 pair_at words sums k j = one_of sums (word_at words j ⊕ word_at words k)
 
 abbrev pub invariant-loop-l : goal.invariant-loop-l

@@ -18,9 +18,9 @@ pub returns : goal.returns
 unfolding data_size
 returns c =
     let a = c.args in
-    step-taken a.plan.now (code (d.before.before.before.before.before.before.before.before)) a.count a.i a.stack.now a.numbers.now a.bits.now _ _ _ ((let place_is-here : let a = c.args in c.place-start.result ≡ sheet_place (sheet_size (code (d.before.before.before.before.before.before.before.before))) a.count a.i = let a = c.args in
-    let e : c.place-start.result ≡ sheet_place c.sheet_bytes-size.result a.count a.i = c.place-start.ensures in
-    e ∙ ap (λ (k : ℕ). sheet_place k a.count a.i) c.sheet_bytes-size.ensures.0 in place_is-here))
+    step-taken a.plan.now (code (d.before.before.before.before.before.before.before.before)) a.count a.i a.stack.now a.numbers.now a.bits.now _ _ _ ((let place_is-here : let place_is-ta = c.args in c.place-start.result ≡ sheet_place (sheet_size (code (d.before.before.before.before.before.before.before.before))) place_is-ta.count place_is-ta.i = let place_is-a = c.args in
+    let place_is-e : c.place-start.result ≡ sheet_place c.sheet_bytes-size.result place_is-a.count place_is-a.i = c.place-start.ensures in
+    place_is-e ∙ ap (λ (k : ℕ). sheet_place k place_is-a.count place_is-a.i) c.sheet_bytes-size.ensures.0 in place_is-here))
     c.sheet_bytes-size.ensures.0 c.data_bytes-length.ensures.0 _ c.read_sheet.ensures
 
 pub overflow_add-end : goal.overflow_add-end
@@ -38,15 +38,15 @@ data_bytes-length-requires c =
 
 pub overflow_mul-from : goal.overflow_mul-from
 overflow_mul-from c =
-    let m = (let from-most-here : c.args.i * c.data_bytes-length.result ≤ 64 * 45056 = let p = c.requires.count_bound in
-    let l : c.args.i ≤ 64 = omega (arith, p.0, p.1) in
-    mul-le-mul l c.data_bytes-length.ensures.1 in from-most-here) in omega arith
+    let m = (let from-most-here : c.args.i * c.data_bytes-length.result ≤ 64 * 45056 = let from-most-p = c.requires.count_bound in
+    let from-most-l : c.args.i ≤ 64 = omega (arith, from-most-p.0, from-most-p.1) in
+    mul-le-mul from-most-l c.data_bytes-length.ensures.1 in from-most-here) in omega arith
 
 pub overflow_add-to : goal.overflow_add-to
 overflow_add-to c =
-    let m = (let from-most-here : c.args.i * c.data_bytes-length.result ≤ 64 * 45056 = let p = c.requires.count_bound in
-    let l : c.args.i ≤ 64 = omega (arith, p.0, p.1) in
-    mul-le-mul l c.data_bytes-length.ensures.1 in from-most-here) in omega (arith, c.data_bytes-length.ensures.1)
+    let m = (let from-most-here : c.args.i * c.data_bytes-length.result ≤ 64 * 45056 = let from-most-p = c.requires.count_bound in
+    let from-most-l : c.args.i ≤ 64 = omega (arith, from-most-p.0, from-most-p.1) in
+    mul-le-mul from-most-l c.data_bytes-length.ensures.1 in from-most-here) in omega (arith, c.data_bytes-length.ensures.1)
 
 pub read_sheet-requires : goal.read_sheet-requires
 unfolding data_size
@@ -54,7 +54,7 @@ read_sheet-requires c =
     let p = c.requires in
     let a = c.args in
     let size = c.sheet_bytes-size.ensures.0 in
-    let bits = c.data_bytes-length.ensures.0 in record { accepted_with = p.accepted_with; unpacked = p.unpacked; sheet_len = ap length (cut-part a.stack.now _ _ _ _ ((let place_is-here : let a = c.args in c.place-start.result ≡ sheet_place (sheet_size (code (d.before.before.before.before.before.before.before.before))) a.count a.i = let a = c.args in
-    let e : c.place-start.result ≡ sheet_place c.sheet_bytes-size.result a.count a.i = c.place-start.ensures in
-    e ∙ ap (λ (k : ℕ). sheet_place k a.count a.i) c.sheet_bytes-size.ensures.0 in place_is-here)) size) ∙ part_length a.stack.now _ _ (sheet-in (d.before.before.before.before.before.before.before.before)); numbers_len = ap length (cut-part a.numbers.now (a.i * numbers_size) numbers_size (a.i * numbers_size) numbers_size refl refl)
+    let bits = c.data_bytes-length.ensures.0 in record { accepted_with = p.accepted_with; unpacked = p.unpacked; sheet_len = ap length (cut-part a.stack.now _ _ _ _ ((let place_is-here : let place_is-ta = c.args in c.place-start.result ≡ sheet_place (sheet_size (code (d.before.before.before.before.before.before.before.before))) place_is-ta.count place_is-ta.i = let place_is-a = c.args in
+    let place_is-e : c.place-start.result ≡ sheet_place c.sheet_bytes-size.result place_is-a.count place_is-a.i = c.place-start.ensures in
+    place_is-e ∙ ap (λ (k : ℕ). sheet_place k place_is-a.count place_is-a.i) c.sheet_bytes-size.ensures.0 in place_is-here)) size) ∙ part_length a.stack.now _ _ (sheet-in (d.before.before.before.before.before.before.before.before)); numbers_len = ap length (cut-part a.numbers.now (a.i * numbers_size) numbers_size (a.i * numbers_size) numbers_size refl refl)
                 ∙ part_length a.numbers.now (a.i * numbers_size) numbers_size (omega (arith, p.count_bound.1, p.sized.numbers-size)); bits_len = ap length (cut-part a.bits.now _ _ _ _ (ap (λ (k : ℕ). a.i * k) bits) bits) ∙ part_length a.bits.now _ _ (bits_in (d.before.before.before.before.before.before.before.before)) }
