@@ -12,16 +12,16 @@ pub joint_entry-joint-requires : goal.joint_entry-joint-requires
 joint_entry-joint-requires c =
     let A = c.requires.accepted_with in record { framed = A.framed; formed = A.formed; i_lt_n1 = (let on-sheet-here : let on-sheet-th = c.args.h in (c.data_cell-cell.result.row < on-sheet-th.n1) × (c.data_cell-cell.result.column < on-sheet-th.n2) = let on-sheet-p = c.requires in
     let on-sheet-e = c.data_cell-cell.ensures in
-    (omega (arith, on-sheet-e.row, row_on _ on-sheet-p.0.formed _ on-sheet-p.1.0), omega (arith, on-sheet-e.column, column-on _ on-sheet-p.0.formed _ on-sheet-p.1.0)) in on-sheet-here) }
+    (omega (arith, on-sheet-e.row, row_on _ on-sheet-p.accepted_with.formed _ on-sheet-p.position_bound), omega (arith, on-sheet-e.column, column-on _ on-sheet-p.accepted_with.formed _ on-sheet-p.position_bound)) in on-sheet-here) }
 
 pub turn-requires : goal.turn-requires
 turn-requires c =
     let p = c.requires in
     let b = byte_inside _ _ ((let on-sheet-here : let on-sheet-th = c.args.h in (c.data_cell-cell.result.row < on-sheet-th.n1) × (c.data_cell-cell.result.column < on-sheet-th.n2) = let on-sheet-p = c.requires in
     let on-sheet-e = c.data_cell-cell.ensures in
-    (omega (arith, on-sheet-e.row, row_on _ on-sheet-p.0.formed _ on-sheet-p.1.0), omega (arith, on-sheet-e.column, column-on _ on-sheet-p.0.formed _ on-sheet-p.1.0)) in on-sheet-here)).1 _ _ ((let on-sheet-here : let on-sheet-th = c.args.h in (c.data_cell-cell.result.row < on-sheet-th.n1) × (c.data_cell-cell.result.column < on-sheet-th.n2) = let on-sheet-p = c.requires in
+    (omega (arith, on-sheet-e.row, row_on _ on-sheet-p.accepted_with.formed _ on-sheet-p.position_bound), omega (arith, on-sheet-e.column, column-on _ on-sheet-p.accepted_with.formed _ on-sheet-p.position_bound)) in on-sheet-here)).1 _ _ ((let on-sheet-here : let on-sheet-th = c.args.h in (c.data_cell-cell.result.row < on-sheet-th.n1) × (c.data_cell-cell.result.column < on-sheet-th.n2) = let on-sheet-p = c.requires in
     let on-sheet-e = c.data_cell-cell.ensures in
-    (omega (arith, on-sheet-e.row, row_on _ on-sheet-p.0.formed _ on-sheet-p.1.0), omega (arith, on-sheet-e.column, column-on _ on-sheet-p.0.formed _ on-sheet-p.1.0)) in on-sheet-here)).0 in
+    (omega (arith, on-sheet-e.row, row_on _ on-sheet-p.accepted_with.formed _ on-sheet-p.position_bound), omega (arith, on-sheet-e.column, column-on _ on-sheet-p.accepted_with.formed _ on-sheet-p.position_bound)) in on-sheet-here)).0 in
     (omega (arith, p.accepted_with.formed.n2-most), omega (arith, p.right_form.size))
 
 pub balance-requires : goal.balance-requires
@@ -30,10 +30,10 @@ balance-requires c =
     let f = p.right_form in
     let i = ((let on-sheet-here : let on-sheet-th = c.args.h in (c.data_cell-cell.result.row < on-sheet-th.n1) × (c.data_cell-cell.result.column < on-sheet-th.n2) = let on-sheet-p = c.requires in
     let on-sheet-e = c.data_cell-cell.ensures in
-    (omega (arith, on-sheet-e.row, row_on _ on-sheet-p.0.formed _ on-sheet-p.1.0), omega (arith, on-sheet-e.column, column-on _ on-sheet-p.0.formed _ on-sheet-p.1.0)) in on-sheet-here)).0 in
+    (omega (arith, on-sheet-e.row, row_on _ on-sheet-p.accepted_with.formed _ on-sheet-p.position_bound), omega (arith, on-sheet-e.column, column-on _ on-sheet-p.accepted_with.formed _ on-sheet-p.position_bound)) in on-sheet-here)).0 in
     let j = ((let on-sheet-here : let on-sheet-th = c.args.h in (c.data_cell-cell.result.row < on-sheet-th.n1) × (c.data_cell-cell.result.column < on-sheet-th.n2) = let on-sheet-p = c.requires in
     let on-sheet-e = c.data_cell-cell.ensures in
-    (omega (arith, on-sheet-e.row, row_on _ on-sheet-p.0.formed _ on-sheet-p.1.0), omega (arith, on-sheet-e.column, column-on _ on-sheet-p.0.formed _ on-sheet-p.1.0)) in on-sheet-here)).1 in
+    (omega (arith, on-sheet-e.row, row_on _ on-sheet-p.accepted_with.formed _ on-sheet-p.position_bound), omega (arith, on-sheet-e.column, column-on _ on-sheet-p.accepted_with.formed _ on-sheet-p.position_bound)) in on-sheet-here)).1 in
     (p.accepted_with, rw c.turn.ensures (turned-form _ _ _ f _ _ i j, turned-joint _ p.accepted_with.formed _ f _ _ _ i j p.belongs c.joint_entry-joint.ensures))
 
 pub returns : goal.returns

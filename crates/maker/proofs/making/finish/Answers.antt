@@ -12,20 +12,20 @@ pub returns-then-few-ne0 : goal.returns-then-few-ne0
 returns-then-few-ne0 c =
     outcome-refused _ _ ((let few-here : let few-ta = c.args in
     c.refuse_if-few.result ≡ taken_verdict few-ta.h (word_at few-ta.rows.now) (word_at few-ta.columns.now) = let few-a = c.args in
-    c.refuse_if-few.ensures ∙ few-taken few-a.h few-a.rows.now few-a.columns.now _ c.take-Cells.ensures in few-here)) c.if-few-ne0.true
+    c.refuse_if-few.ensures ∙ few-taken few-a.h few-a.rows.now few-a.columns.now _ c.take_cells-taken.ensures in few-here)) c.if-few-ne0.true
 
 pub encode-requires : goal.encode-requires
 encode-requires c =
     let p = c.requires in
     let t = p.tables in
-    record { small = p.small; h_value = p.h_value; plan_len = p.plan_len; rows_len = t.rows-size; columns_len = t.columns-size; cells_len = c.take-Cells.ensures.places-size }
+    record { small = p.small; h_value = p.h_value; plan_len = p.plan_len; rows_len = t.rows-size; columns_len = t.columns-size; cells_len = c.take_cells-taken.ensures.places-size }
 
 pub returns : goal.returns
 returns c =
     let a = c.args in
     let e = (let few-here : let few-ta = c.args in
     c.refuse_if-few.result ≡ taken_verdict few-ta.h (word_at few-ta.rows.now) (word_at few-ta.columns.now) = let few-a = c.args in
-    c.refuse_if-few.ensures ∙ few-taken few-a.h few-a.rows.now few-a.columns.now _ c.take-Cells.ensures in few-here) in
+    c.refuse_if-few.ensures ∙ few-taken few-a.h few-a.rows.now few-a.columns.now _ c.take_cells-taken.ensures in few-here) in
     let z = c.if-few-ne0.false in
-    let h = held_bytes a.h a.rows.now a.columns.now _ c.take-Cells.ensures (same-zero e z) in
+    let h = held_bytes a.h a.rows.now a.columns.now _ c.take_cells-taken.ensures (same-zero e z) in
     outcome-done _ _ e z (c.encode.ensures ∙ h)

@@ -21,11 +21,10 @@ pub returns-then-tables-ne0 : goal.returns-then-tables-ne0
 returns-then-tables-ne0 c =
     make-tables _ _ c.requires.plan_value ((let tested-here : let tested-tg = c.args.g in
     let tested-td = bare_code (header_for tested-tg) (row_table tested-tg) (column_table tested-tg) in
-    c.tables_verdict-tables.result ≡ (rows_verdict tested-td or_else columns_verdict tested-td) = let tested-s = m.before.before.before.before.before.before in
-    let tested-g = tested-s.args.g in
-    let tested-p = (good tested-s).small in
+    c.tables_verdict-tables.result ≡ (rows_verdict tested-td or_else columns_verdict tested-td) = let tested-g = c.args.g in
+    let tested-p = ((let good-here : Good c.args.g (length c.args.plan.now) = given-good _ _ c.requires.plan_value in good-here)).small in
     (rw ((let header-here : c.ruled-h.result ≡ header_for c.args.g = c.ruled-h.ensures ∙ ap ruled c.numbers.ensures in header-here)) at c.tables_verdict-tables.ensures)
-    ∙ ap₂ ◌or_else◌ (row-condition tested-g (header_for tested-g) tested-p _ _ tested-s.requires.1) (column-condition tested-g (header_for tested-g) tested-p _ _ tested-s.requires.1) in tested-here)) c.if-tables-ne0.true
+    ∙ ap₂ ◌or_else◌ (row-condition tested-g (header_for tested-g) tested-p _ _ c.requires.power_tables) (column-condition tested-g (header_for tested-g) tested-p _ _ c.requires.power_tables) in tested-here)) c.if-tables-ne0.true
 
 pub finish-requires : goal.finish-requires
 finish-requires c = rw ((let header-here : c.ruled-h.result ≡ header_for c.args.g = c.ruled-h.ensures ∙ ap ruled c.numbers.ensures in header-here)) (record { small = ((let good-here : Good c.args.g (length c.args.plan.now) = given-good _ _ c.requires.plan_value in good-here)).small; h_value = ruled-twice c.args.g; tables = (let tables-here : Tables (header_for c.args.g) c.args.rows.now c.args.columns.now = power-tables c.args.g (header_for c.args.g) _ _ ((let good-here : Good c.args.g (length c.args.plan.now) = given-good _ _ c.requires.plan_value in good-here)).degrees c.requires.power_tables in tables-here); plan_len = ((let good-here : Good c.args.g (length c.args.plan.now) = given-good _ _ c.requires.plan_value in good-here)).long })
@@ -38,8 +37,7 @@ returns c =
     ∙ made-equal h ((let good-here : Good c.args.g (length c.args.plan.now) = given-good _ _ c.requires.plan_value in good-here)).small _ _ _ _ t.row t.column c.args.plan.now
     ∙ sym (make-taken _ _ c.requires.plan_value ((let tested-here : let tested-tg = c.args.g in
     let tested-td = bare_code (header_for tested-tg) (row_table tested-tg) (column_table tested-tg) in
-    c.tables_verdict-tables.result ≡ (rows_verdict tested-td or_else columns_verdict tested-td) = let tested-s = m.before.before.before.before.before.before in
-    let tested-g = tested-s.args.g in
-    let tested-p = (good tested-s).small in
+    c.tables_verdict-tables.result ≡ (rows_verdict tested-td or_else columns_verdict tested-td) = let tested-g = c.args.g in
+    let tested-p = ((let good-here : Good c.args.g (length c.args.plan.now) = given-good _ _ c.requires.plan_value in good-here)).small in
     (rw ((let header-here : c.ruled-h.result ≡ header_for c.args.g = c.ruled-h.ensures ∙ ap ruled c.numbers.ensures in header-here)) at c.tables_verdict-tables.ensures)
-    ∙ ap₂ ◌or_else◌ (row-condition tested-g (header_for tested-g) tested-p _ _ tested-s.requires.1) (column-condition tested-g (header_for tested-g) tested-p _ _ tested-s.requires.1) in tested-here)) c.if-tables-ne0.false)
+    ∙ ap₂ ◌or_else◌ (row-condition tested-g (header_for tested-g) tested-p _ _ c.requires.power_tables) (column-condition tested-g (header_for tested-g) tested-p _ _ c.requires.power_tables) in tested-here)) c.if-tables-ne0.false)

@@ -7,7 +7,7 @@ use Rattle.plan.specs.Table.{word_at}
 use Rattle.mend.proofs.few.pair_fit.Given as goal
 
 abbrev pub invariant-loop-k : goal.invariant-loop-k
-invariant-loop-k l = (l.k ≤ length l.words) × ((l j : ℕ) → l < j → j < l.k → word_at l.words l ⊕ word_at l.words j ≡ l.v → ⊥)
+invariant-loop-k w = (w.k ≤ length w.words) × ((l j : ℕ) → l < j → j < w.k → word_at w.words l ⊕ word_at w.words j ≡ w.v → ⊥)
 
 abbrev pub decreases-loop-k : goal.decreases-loop-k
 decreases-loop-k l = length l.words - l.k

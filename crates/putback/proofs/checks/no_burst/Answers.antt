@@ -29,24 +29,18 @@ report_of-report-requires c = report-needs _ c.requires.formed _ ((let within-he
 pub returns-then-not-few : goal.returns-then-not-few
 returns-then-not-few c =
     no-crowded _ _ ((let within-here : let within-ta = c.args in let within-tcode = code_with within-ta.plan.now within-ta.h in (exceeds within-tcode within-ta.answer || leaves within-tcode within-ta.answer) ≡ false = outside_told _ ((let fields-here : Taken c.args.answer c.unpack-told.result = taken_out c.unpack-told.ensures in fields-here)) c.outside.ensures ∙ c.if-outside.false in within-here)) ((let crowd-here : let crowd-ta = c.args in
-    crowded (code_with crowd-ta.plan.now crowd-ta.h) crowd-ta.answer ≡ not c.few.result = let crowd-t = c.before.before.before in
-    let crowd-e = crowd-t.before.before.before in
-    told-crowded _ (given crowd-e).requires.formed _ (within crowd-e) (some crowd-t) (fields crowd-e) c.report_of-report.ensures c.few.ensures in crowd-here) ∙ c.if-not-few.true)
+    crowded (code_with crowd-ta.plan.now crowd-ta.h) crowd-ta.answer ≡ not c.few.result = told-crowded _ c.requires.formed _ ((let within-here : let within-ta = c.args in let within-tcode = code_with within-ta.plan.now within-ta.h in (exceeds within-tcode within-ta.answer || leaves within-tcode within-ta.answer) ≡ false = outside_told _ ((let fields-here : Taken c.args.answer c.unpack-told.result = taken_out c.unpack-told.ensures in fields-here)) c.outside.ensures ∙ c.if-outside.false in within-here)) ((let some-here : let some-ta = c.args.answer in (eqb (height_in some-ta) 0 || eqb (width_in some-ta) 0) ≡ false = wide-told ((let fields-here : Taken c.args.answer c.unpack-told.result = taken_out c.unpack-told.ensures in fields-here)) c.if-told.false in some-here)) ((let fields-here : Taken c.args.answer c.unpack-told.result = taken_out c.unpack-told.ensures in fields-here)) c.report_of-report.ensures c.few.ensures in crowd-here) ∙ c.if-not-few.true)
 
 pub pack_report-requires : goal.pack_report-requires
 pack_report-requires c =
     told-range _ c.requires.formed _ ((let within-here : let within-ta = c.args in let within-tcode = code_with within-ta.plan.now within-ta.h in (exceeds within-tcode within-ta.answer || leaves within-tcode within-ta.answer) ≡ false = outside_told _ ((let fields-here : Taken c.args.answer c.unpack-told.result = taken_out c.unpack-told.ensures in fields-here)) c.outside.ensures ∙ c.if-outside.false in within-here)) ((let some-here : let some-ta = c.args.answer in (eqb (height_in some-ta) 0 || eqb (width_in some-ta) 0) ≡ false = wide-told ((let fields-here : Taken c.args.answer c.unpack-told.result = taken_out c.unpack-told.ensures in fields-here)) c.if-told.false in some-here)) ((let fields-here : Taken c.args.answer c.unpack-told.result = taken_out c.unpack-told.ensures in fields-here)) c.report_of-report.ensures ((let crowd-here : let crowd-ta = c.args in
-    crowded (code_with crowd-ta.plan.now crowd-ta.h) crowd-ta.answer ≡ not c.few.result = let crowd-t = f.before.before in
-    let crowd-e = crowd-t.before.before.before in
-    told-crowded _ (given crowd-e).requires.formed _ (within crowd-e) (some crowd-t) (fields crowd-e) c.report_of-report.ensures c.few.ensures in crowd-here) ∙ c.if-not-few.false) c.accept.ensures
+    crowded (code_with crowd-ta.plan.now crowd-ta.h) crowd-ta.answer ≡ not c.few.result = told-crowded _ c.requires.formed _ ((let within-here : let within-ta = c.args in let within-tcode = code_with within-ta.plan.now within-ta.h in (exceeds within-tcode within-ta.answer || leaves within-tcode within-ta.answer) ≡ false = outside_told _ ((let fields-here : Taken c.args.answer c.unpack-told.result = taken_out c.unpack-told.ensures in fields-here)) c.outside.ensures ∙ c.if-outside.false in within-here)) ((let some-here : let some-ta = c.args.answer in (eqb (height_in some-ta) 0 || eqb (width_in some-ta) 0) ≡ false = wide-told ((let fields-here : Taken c.args.answer c.unpack-told.result = taken_out c.unpack-told.ensures in fields-here)) c.if-told.false in some-here)) ((let fields-here : Taken c.args.answer c.unpack-told.result = taken_out c.unpack-told.ensures in fields-here)) c.report_of-report.ensures c.few.ensures in crowd-here) ∙ c.if-not-few.false) c.accept.ensures
 
 pub returns : goal.returns
 returns c =
     let g = c.args in
     let n : not (eqb c.pack_report.result g.answer) ≡ no_burst (code_with g.plan.now g.h) g.answer =
     no_other _ c.requires.formed _ ((let within-here : let within-ta = c.args in let within-tcode = code_with within-ta.plan.now within-ta.h in (exceeds within-tcode within-ta.answer || leaves within-tcode within-ta.answer) ≡ false = outside_told _ ((let fields-here : Taken c.args.answer c.unpack-told.result = taken_out c.unpack-told.ensures in fields-here)) c.outside.ensures ∙ c.if-outside.false in within-here)) ((let some-here : let some-ta = c.args.answer in (eqb (height_in some-ta) 0 || eqb (width_in some-ta) 0) ≡ false = wide-told ((let fields-here : Taken c.args.answer c.unpack-told.result = taken_out c.unpack-told.ensures in fields-here)) c.if-told.false in some-here)) ((let fields-here : Taken c.args.answer c.unpack-told.result = taken_out c.unpack-told.ensures in fields-here)) c.report_of-report.ensures ((let crowd-here : let crowd-ta = c.args in
-    crowded (code_with crowd-ta.plan.now crowd-ta.h) crowd-ta.answer ≡ not c.few.result = let crowd-t = f.before.before in
-    let crowd-e = crowd-t.before.before.before in
-    told-crowded _ (given crowd-e).requires.formed _ (within crowd-e) (some crowd-t) (fields crowd-e) c.report_of-report.ensures c.few.ensures in crowd-here) ∙ c.if-not-few.false)
+    crowded (code_with crowd-ta.plan.now crowd-ta.h) crowd-ta.answer ≡ not c.few.result = told-crowded _ c.requires.formed _ ((let within-here : let within-ta = c.args in let within-tcode = code_with within-ta.plan.now within-ta.h in (exceeds within-tcode within-ta.answer || leaves within-tcode within-ta.answer) ≡ false = outside_told _ ((let fields-here : Taken c.args.answer c.unpack-told.result = taken_out c.unpack-told.ensures in fields-here)) c.outside.ensures ∙ c.if-outside.false in within-here)) ((let some-here : let some-ta = c.args.answer in (eqb (height_in some-ta) 0 || eqb (width_in some-ta) 0) ≡ false = wide-told ((let fields-here : Taken c.args.answer c.unpack-told.result = taken_out c.unpack-told.ensures in fields-here)) c.if-told.false in some-here)) ((let fields-here : Taken c.args.answer c.unpack-told.result = taken_out c.unpack-told.ensures in fields-here)) c.report_of-report.ensures c.few.ensures in crowd-here) ∙ c.if-not-few.false)
     c.accept.ensures c.pack_report.ensures in
     n

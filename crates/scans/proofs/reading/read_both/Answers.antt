@@ -14,7 +14,7 @@ returns-then-not-mended_agree c =
     rw c.refuse.ensures (decide-differ _ _ _ _ _ _ _ ((let same-here : let same-ta = c.args in
     let same-tk = code_with same-ta.plan.now same-ta.h in
     agree (bits_read ByRow same-tk same-ta.first.now) (bits_read ByRow same-tk same-ta.second.now) ≡ c.mended_agree.result = let same-p = c.requires in
-    agree-found _ same-p.0.formed same-p.0.conditions _ same-p.1.0 _ _ _ same-p.1.1.0 _ same-p.1.1.1.0 _ _ _ same-p.1.1.1.1.0 _ c.mended_agree.ensures in same-here) ∙ c.if-not-mended_agree.true))
+    agree-found _ same-p.accepted_with.formed same-p.accepted_with.conditions _ same-p.right_form _ _ _ same-p.fact _ same-p.right_form_2 _ _ _ same-p.fact_2 _ c.mended_agree.ensures in same-here) ∙ c.if-not-mended_agree.true))
 
 pub returns : goal.returns
 returns c =
@@ -22,4 +22,4 @@ returns c =
     ∙ decide-agree _ _ _ _ _ _ _ ((let same-here : let same-ta = c.args in
     let same-tk = code_with same-ta.plan.now same-ta.h in
     agree (bits_read ByRow same-tk same-ta.first.now) (bits_read ByRow same-tk same-ta.second.now) ≡ c.mended_agree.result = let same-p = c.requires in
-    agree-found _ same-p.0.formed same-p.0.conditions _ same-p.1.0 _ _ _ same-p.1.1.0 _ same-p.1.1.1.0 _ _ _ same-p.1.1.1.1.0 _ c.mended_agree.ensures in same-here) ∙ c.if-not-mended_agree.false)
+    agree-found _ same-p.accepted_with.formed same-p.accepted_with.conditions _ same-p.right_form _ _ _ same-p.fact _ same-p.right_form_2 _ _ _ same-p.fact_2 _ c.mended_agree.ensures in same-here) ∙ c.if-not-mended_agree.false)
