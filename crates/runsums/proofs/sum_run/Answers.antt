@@ -38,7 +38,7 @@ unfolding code_of run_bytes
 returns c =
     let e = c.sums_checks-verdict.ensures.verdict in
     ap₂ summed e ((let filled-here : let filled-ta = c.args in
-    c.put_sums.new.1.0 ≡ run_bytes (code_of filled-ta.plan.now) filled-ta.first filled-ta.past filled-ta.sheet.now = let filled-a = c.args in
+    c.put_sums.new.room ≡ run_bytes (code_of filled-ta.plan.now) filled-ta.first filled-ta.past filled-ta.sheet.now = let filled-a = c.args in
     let filled-h = c.header_of.result in
     let filled-s : RunSums (code_with filled-a.plan.now filled-h) (cell_of filled-h.n2 filled-a.sheet.now) filled-a.first filled-a.past c.sums.result =
     c.sums.ensures in

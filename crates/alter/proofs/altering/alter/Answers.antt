@@ -28,4 +28,4 @@ pub returns : goal.returns
 unfolding altered_bytes code_of written_in
 returns c =
     ap₂ altered c.alter_checks-verdict.ensures ((let whole-here : let whole-ta = c.args in
-    c.alter_sheet.new.1.1.1.0 ≡ altered_bytes whole-ta.plan.now whole-ta.sheet.now whole-ta.position = rw c.header_of.ensures at c.alter_sheet.ensures in whole-here)) ∙ sym (alter-done _ _ _ ((let passes-here : let passes-ta = c.args in (alter_checks passes-ta.plan.now passes-ta.sheet.now passes-ta.position).number ≡ 0 = ap (λ (v : Verdict). v.number) (sym c.alter_checks-verdict.ensures) ∙ c.if-verdict-ne0.false in passes-here)))
+    c.alter_sheet.new.sheet ≡ altered_bytes whole-ta.plan.now whole-ta.sheet.now whole-ta.position = rw c.header_of.ensures at c.alter_sheet.ensures in whole-here)) ∙ sym (alter-done _ _ _ ((let passes-here : let passes-ta = c.args in (alter_checks passes-ta.plan.now passes-ta.sheet.now passes-ta.position).number ≡ 0 = ap (λ (v : Verdict). v.number) (sym c.alter_checks-verdict.ensures) ∙ c.if-verdict-ne0.false in passes-here)))

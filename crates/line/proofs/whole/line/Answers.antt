@@ -18,17 +18,17 @@ slice_bounds-copy-count c = (let fits-here : c.plan_size-n.result ≤ length c.a
 pub slice_bounds-read_line-end-2 : goal.slice_bounds-read_line-end-2
 slice_bounds-read_line-end-2 c =
     let p = c.copy-m in
-    let h : p.result ≤ length p.new.1.0 = omega arith in
+    let h : p.result ≤ length p.new.to = omega arith in
     sym (length-take-le _ _ h)
 
 pub slice_bounds-read_line-end-4 : goal.slice_bounds-read_line-end-4
 slice_bounds-read_line-end-4 c =
-    let h : c.data_bytes-k.result ≤ length c.clear.new.0 = omega arith in
+    let h : c.data_bytes-k.result ≤ length c.clear.new.s = omega arith in
     sym (length-take-le _ _ h)
 
 pub read_line-requires : goal.read_line-requires
 read_line-requires c =
-    let e = length-take c.data_bytes-k.result c.clear.new.0 in
+    let e = length-take c.data_bytes-k.result c.clear.new.s in
     omega arith
 
 pub returns : goal.returns

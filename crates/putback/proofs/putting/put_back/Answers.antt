@@ -28,4 +28,4 @@ pub returns : goal.returns
 unfolding code_of
 returns c =
     ap₂ left_back c.back_checks-verdict.ensures ((let whole-here : let whole-ta = c.args in
-    c.turn_told.new.1.1.1.0 ≡ back_bytes (code_of whole-ta.plan.now) whole-ta.sheet.now whole-ta.answer = rw c.header_of.ensures at c.turn_told.ensures in whole-here)) ∙ sym (back_done _ _ _ ((let passes-here : let passes-ta = c.args in (back_checks passes-ta.plan.now passes-ta.sheet.now passes-ta.answer).number ≡ 0 = ap (λ (v : Verdict). v.number) (sym c.back_checks-verdict.ensures) ∙ c.if-verdict-ne0.false in passes-here)))
+    c.turn_told.new.sheet ≡ back_bytes (code_of whole-ta.plan.now) whole-ta.sheet.now whole-ta.answer = rw c.header_of.ensures at c.turn_told.ensures in whole-here)) ∙ sym (back_done _ _ _ ((let passes-here : let passes-ta = c.args in (back_checks passes-ta.plan.now passes-ta.sheet.now passes-ta.answer).number ≡ 0 = ap (λ (v : Verdict). v.number) (sym c.back_checks-verdict.ensures) ∙ c.if-verdict-ne0.false in passes-here)))

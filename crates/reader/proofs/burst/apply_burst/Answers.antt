@@ -18,7 +18,7 @@ take-requires c =
     let a = c.args in
     let p = c.requires in
     let size = in_size a.lay a.h.n1 a.h.n2 a.sheet.now p.form_in in
-    record { framed = p.accepted_with.framed; formed = p.accepted_with.formed; bits_len = p.bits_len; sheet_len = c.turn_box.auto.1.0 ∙ size }
+    record { framed = p.accepted_with.framed; formed = p.accepted_with.formed; bits_len = p.bits_len; sheet_len = c.turn_box.auto.sheet ∙ size }
 
 pub returns : goal.returns
 returns c =

@@ -22,7 +22,7 @@ unfolding code_of turned_sheet
 returns c =
     let e = c.transpose_checks-verdict.ensures.verdict in
     ap₂ turned_over e ((let whole-here : let whole-ta = c.args in
-    c.transpose_in.new.1.1.1.1.0 ≡ turned_sheet whole-ta.lay whole-ta.plan.now whole-ta.source.now = rw c.header_of-h.ensures at c.transpose_in.ensures in whole-here)) ∙ sym (turn-done _ _ _ _ ((let passes-here : let passes-ta = c.args in (transpose_checks passes-ta.lay passes-ta.plan.now passes-ta.source.now passes-ta.target.now).number ≡ 0 = checked-passes c.transpose_checks-verdict.ensures c.if-verdict-ne0.false in passes-here)))
+    c.transpose_in.new.target ≡ turned_sheet whole-ta.lay whole-ta.plan.now whole-ta.source.now = rw c.header_of-h.ensures at c.transpose_in.ensures in whole-here)) ∙ sym (turn-done _ _ _ _ ((let passes-here : let passes-ta = c.args in (transpose_checks passes-ta.lay passes-ta.plan.now passes-ta.source.now passes-ta.target.now).number ≡ 0 = checked-passes c.transpose_checks-verdict.ensures c.if-verdict-ne0.false in passes-here)))
 
 pub header_of-h-requires : goal.header_of-h-requires
 header_of-h-requires c = let m = (let ready-here : let ready-ta = c.args in MayTranspose ready-ta.lay ready-ta.plan.now ready-ta.source.now ready-ta.target.now = transpose-zero _ _ _ _ ((let passes-here : let passes-ta = c.args in (transpose_checks passes-ta.lay passes-ta.plan.now passes-ta.source.now passes-ta.target.now).number ≡ 0 = checked-passes c.transpose_checks-verdict.ensures c.if-verdict-ne0.false in passes-here)) in ready-here) in omega (arith, m.accepted.framed.long)

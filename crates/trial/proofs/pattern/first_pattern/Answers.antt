@@ -21,7 +21,7 @@ loop-x-init c = (below_none _, omega arith)
 pub returns-then-fits : goal.returns-then-fits
 returns-then-fits c =
     let e = counted c.args.n (omega arith) in
-    c.wide.ensures ∙ search-finds _ _ _ (omega arith) c.loop-x.invariant.0 (sym c.fits2.ensures ∙ c.if-fits.true)
+    c.wide.ensures ∙ search-finds _ _ _ (omega arith) c.loop-x.invariant.0 (sym c.fits.ensures ∙ c.if-fits.true)
 
 pub overflow_add-x : goal.overflow_add-x
 overflow_add-x c =
@@ -35,7 +35,7 @@ loop-x-smaller c = let e = counted c.args.n (omega arith) in omega arith
 pub loop-x-preserved : goal.loop-x-preserved
 loop-x-preserved c =
     let e = counted c.args.n (omega arith) in
-    (below_more _ _ c.loop-x.invariant.0 (sym c.fits2.ensures ∙ c.if-fits.false), omega arith)
+    (below_more _ _ c.loop-x.invariant.0 (sym c.fits.ensures ∙ c.if-fits.false), omega arith)
 
 pub returns : goal.returns
 returns c =

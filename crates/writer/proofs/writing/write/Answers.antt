@@ -32,4 +32,4 @@ unfolding code_of written_in
 returns c =
     let e = c.write_checks-verdict.ensures.verdict in
     ap₂ wrote e ((let whole-here : let whole-ta = c.args in
-    c.write_sheet.new.1.1.1.1.1.0 ≡ written_in whole-ta.lay whole-ta.plan.now whole-ta.bits.now = rw c.header_of.ensures at c.write_sheet.ensures in whole-here)) ∙ sym (write_done _ _ _ _ ((let passes-here : let passes-ta = c.args in (write_checks passes-ta.lay passes-ta.plan.now passes-ta.bits.now passes-ta.sheet.now).number ≡ 0 = checked-passes c.write_checks-verdict.ensures c.if-verdict-ne0.false in passes-here)))
+    c.write_sheet.new.sheet ≡ written_in whole-ta.lay whole-ta.plan.now whole-ta.bits.now = rw c.header_of.ensures at c.write_sheet.ensures in whole-here)) ∙ sym (write_done _ _ _ _ ((let passes-here : let passes-ta = c.args in (write_checks passes-ta.lay passes-ta.plan.now passes-ta.bits.now passes-ta.sheet.now).number ≡ 0 = checked-passes c.write_checks-verdict.ensures c.if-verdict-ne0.false in passes-here)))

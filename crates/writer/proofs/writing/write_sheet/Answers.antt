@@ -15,7 +15,7 @@ put-requires c =
 pub joint_sum-sum-requires : goal.joint_sum-sum-requires
 joint_sum-sum-requires c =
     let p = c.requires in
-    record { framed = p.accepted_with.framed; formed = p.accepted_with.formed; unpacked = p.unpacked; sheet_len = c.put.auto.1.1.1.1.0 ∙ p.sheet_len }
+    record { framed = p.accepted_with.framed; formed = p.accepted_with.formed; unpacked = p.unpacked; sheet_len = c.put.auto.sheet ∙ p.sheet_len }
 
 pub balance-requires : goal.balance-requires
 balance-requires c =
