@@ -12,3 +12,9 @@ returns c = ap (λ (p : Part). part_of p c.args.second.now) c.differing_part-par
 
 pub slice_bounds-result-count : goal.slice_bounds-result-count
 slice_bounds-result-count c = ((let inside-here : Inside c.differing_part-part.result (length c.args.second.now) = rw c.differing_part-part.ensures (part-inside _ _ _) in inside-here)).ordered
+
+pub slice_bounds-result-start : goal.slice_bounds-result-start
+slice_bounds-result-start c = ((let inside-here : Inside c.differing_part-part.result (length c.args.second.now) = rw c.differing_part-part.ensures (part-inside _ _ _) in inside-here)).ordered
+
+pub slice_bounds-result-end : goal.slice_bounds-result-end
+slice_bounds-result-end c = ((let inside-here : Inside c.differing_part-part.result (length c.args.second.now) = rw c.differing_part-part.ensures (part-inside _ _ _) in inside-here)).within

@@ -34,7 +34,11 @@ balance-requires c =
     let j = ((let on-sheet-here : let on-sheet-th = c.args.h in (c.data_cell-cell.result.row < on-sheet-th.n1) × (c.data_cell-cell.result.column < on-sheet-th.n2) = let on-sheet-p = c.requires in
     let on-sheet-e = c.data_cell-cell.ensures in
     (omega (arith, on-sheet-e.row, row_on _ on-sheet-p.accepted_with.formed _ on-sheet-p.position_bound), omega (arith, on-sheet-e.column, column-on _ on-sheet-p.accepted_with.formed _ on-sheet-p.position_bound)) in on-sheet-here)).1 in
-    (p.accepted_with, rw c.turn.ensures (turned-form _ _ _ f _ _ i j, turned-joint _ p.accepted_with.formed _ f _ _ _ i j p.belongs c.joint_entry-joint.ensures))
+    record {
+      accepted_with = p.accepted_with;
+      form_in = rw c.turn.ensures (turned-form _ _ _ f _ _ i j);
+      joint_sum = rw c.turn.ensures (turned-joint _ p.accepted_with.formed _ f _ _ _ i j p.belongs c.joint_entry-joint.ensures);
+    }
 
 pub returns : goal.returns
 returns c =

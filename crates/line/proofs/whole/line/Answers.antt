@@ -15,6 +15,9 @@ slice_bounds-plan-end c = sym (length-take-le _ _ ((let fits-here : c.plan_size-
 pub slice_bounds-copy-count : goal.slice_bounds-copy-count
 slice_bounds-copy-count c = (let fits-here : c.plan_size-n.result ≤ length c.args.input.now = let fits-p = parts-fit c.args.input.now in omega (arith, c.plan_size-n.ensures) in fits-here)
 
+pub slice_bounds-copy-start : goal.slice_bounds-copy-start
+slice_bounds-copy-start c = (let fits-here : c.plan_size-n.result ≤ length c.args.input.now = let fits-p = parts-fit c.args.input.now in omega (arith, c.plan_size-n.ensures) in fits-here)
+
 pub slice_bounds-read_line-end-2 : goal.slice_bounds-read_line-end-2
 slice_bounds-read_line-end-2 c =
     let p = c.copy-m in

@@ -1,6 +1,6 @@
 -- `stack::reading::read_at` meets its contract: the three places of sheet i lie in their buffers, and only they are written. Assumes nothing.
 use mathlib.Core.Path.{◌≡◌, refl, ap, ◌∙◌}
-use Prim.Native.Nat.{ℕ, ◌*◌, ◌≤◌}
+use Prim.Native.Nat.{ℕ, ◌+◌, ◌*◌, ◌≤◌}
 use native.Mathlib.Nat.{mul-le-mul}
 use native.Mathlib.Omega.{arith}
 use lib.ListN.{length}
@@ -8,8 +8,11 @@ use Rattle.stackform.specs.Stack.{header_end, sheet_place}
 use Rattle.stackform.proofs.Parts.{part_length}
 use Rattle.boxcode.proofs.Check.{checks-fit}
 use Rattle.boxcode.specs.Check.{data_size}
+use Rattle.plan.specs.Bytes.{code_with}
+use Rattle.plan.proofs.Framing.{framed-code}
 use Rattle.buffers.specs.Buffers.{numbers_size}
-use Rattle.stack.specs.ReadStack.{sheet_size}
+use Rattle.stack.specs.ReadStack.{sheet_size, data_bytes, lent}
+use Rattle.stack.proofs.Steps.{sheet-inside, bits_inside}
 use Rattle.stack.proofs.Places.{cut-part, step-taken}
 use Rattle.stack.proofs.reading.read_at.Goals as goal
 
@@ -18,10 +21,25 @@ pub returns : goal.returns
 unfolding data_size
 returns c =
     let a = c.args in
-    step-taken a.plan.now (code (d.before.before.before.before.before.before.before.before)) a.count a.i a.stack.now a.numbers.now a.bits.now _ _ _ ((let place_is-here : let place_is-ta = c.args in c.place-start.result ≡ sheet_place (sheet_size (code (d.before.before.before.before.before.before.before.before))) place_is-ta.count place_is-ta.i = let place_is-a = c.args in
+    step-taken a.plan.now ((code_with c.args.plan.now c.args.h)) a.count a.i a.stack.now a.numbers.now a.bits.now _ _ _ ((let place_is-here : let place_is-ta = c.args in c.place-start.result ≡ sheet_place (sheet_size ((code_with c.args.plan.now c.args.h))) place_is-ta.count place_is-ta.i = let place_is-a = c.args in
     let place_is-e : c.place-start.result ≡ sheet_place c.sheet_bytes-size.result place_is-a.count place_is-a.i = c.place-start.ensures in
     place_is-e ∙ ap (λ (k : ℕ). sheet_place k place_is-a.count place_is-a.i) c.sheet_bytes-size.ensures.0 in place_is-here))
     c.sheet_bytes-size.ensures.0 c.data_bytes-length.ensures.0 _ c.read_sheet.ensures
+
+pub slice_bounds-read_sheet-end : goal.slice_bounds-read_sheet-end
+slice_bounds-read_sheet-end c =
+    let e : c.place-start.result + c.sheet_bytes-size.result ≤ length c.args.stack.now =
+    (let s = (let sheet-in-here : sheet_place (sheet_size ((code_with c.args.plan.now c.args.h))) c.args.count c.args.i + sheet_size ((code_with c.args.plan.now c.args.h)) ≤ length c.args.stack.now = let sheet-in-p = c.requires in
+    sheet-inside c.args.plan.now ((code_with c.args.plan.now c.args.h)) (framed-code _ _ sheet-in-p.accepted_with.framed) c.args.count ((lent c.args.stack.now c.args.numbers.now c.args.bits.now)) sheet-in-p.sized c.args.i sheet-in-p.count_bound.1 in sheet-in-here) in omega (arith, (let place_is-here : let place_is-ta = c.args in c.place-start.result ≡ sheet_place (sheet_size ((code_with c.args.plan.now c.args.h))) place_is-ta.count place_is-ta.i = let place_is-a = c.args in
+    let place_is-e : c.place-start.result ≡ sheet_place c.sheet_bytes-size.result place_is-a.count place_is-a.i = c.place-start.ensures in
+    place_is-e ∙ ap (λ (k : ℕ). sheet_place k place_is-a.count place_is-a.i) c.sheet_bytes-size.ensures.0 in place_is-here), c.sheet_bytes-size.ensures.0)) in
+    e
+
+pub slice_bounds-read_sheet-end-3 : goal.slice_bounds-read_sheet-end-3
+unfolding data_size
+slice_bounds-read_sheet-end-3 c =
+    rw c.data_bytes-length.ensures.0 ((let bits_in-here : c.args.i * data_bytes ((code_with c.args.plan.now c.args.h)) + data_bytes ((code_with c.args.plan.now c.args.h)) ≤ length c.args.bits.now = let bits_in-p = c.requires in
+    bits_inside c.args.plan.now ((code_with c.args.plan.now c.args.h)) (framed-code _ _ bits_in-p.accepted_with.framed) c.args.count ((lent c.args.stack.now c.args.numbers.now c.args.bits.now)) bits_in-p.sized c.args.i bits_in-p.count_bound.1 in bits_in-here))
 
 pub overflow_add-end : goal.overflow_add-end
 unfolding header_end sheet_place
@@ -54,7 +72,9 @@ read_sheet-requires c =
     let p = c.requires in
     let a = c.args in
     let size = c.sheet_bytes-size.ensures.0 in
-    let bits = c.data_bytes-length.ensures.0 in record { accepted_with = p.accepted_with; unpacked = p.unpacked; sheet_len = ap length (cut-part a.stack.now _ _ _ _ ((let place_is-here : let place_is-ta = c.args in c.place-start.result ≡ sheet_place (sheet_size (code (d.before.before.before.before.before.before.before.before))) place_is-ta.count place_is-ta.i = let place_is-a = c.args in
+    let bits = c.data_bytes-length.ensures.0 in record { accepted_with = p.accepted_with; unpacked = p.unpacked; sheet_len = ap length (cut-part a.stack.now _ _ _ _ ((let place_is-here : let place_is-ta = c.args in c.place-start.result ≡ sheet_place (sheet_size ((code_with c.args.plan.now c.args.h))) place_is-ta.count place_is-ta.i = let place_is-a = c.args in
     let place_is-e : c.place-start.result ≡ sheet_place c.sheet_bytes-size.result place_is-a.count place_is-a.i = c.place-start.ensures in
-    place_is-e ∙ ap (λ (k : ℕ). sheet_place k place_is-a.count place_is-a.i) c.sheet_bytes-size.ensures.0 in place_is-here)) size) ∙ part_length a.stack.now _ _ (sheet-in (d.before.before.before.before.before.before.before.before)); numbers_len = ap length (cut-part a.numbers.now (a.i * numbers_size) numbers_size (a.i * numbers_size) numbers_size refl refl)
-                ∙ part_length a.numbers.now (a.i * numbers_size) numbers_size (omega (arith, p.count_bound.1, p.sized.numbers-size)); bits_len = ap length (cut-part a.bits.now _ _ _ _ (ap (λ (k : ℕ). a.i * k) bits) bits) ∙ part_length a.bits.now _ _ (bits_in (d.before.before.before.before.before.before.before.before)) }
+    place_is-e ∙ ap (λ (k : ℕ). sheet_place k place_is-a.count place_is-a.i) c.sheet_bytes-size.ensures.0 in place_is-here)) size) ∙ part_length a.stack.now _ _ ((let sheet-in-here : sheet_place (sheet_size ((code_with c.args.plan.now c.args.h))) c.args.count c.args.i + sheet_size ((code_with c.args.plan.now c.args.h)) ≤ length c.args.stack.now = let sheet-in-p = c.requires in
+    sheet-inside c.args.plan.now ((code_with c.args.plan.now c.args.h)) (framed-code _ _ sheet-in-p.accepted_with.framed) c.args.count ((lent c.args.stack.now c.args.numbers.now c.args.bits.now)) sheet-in-p.sized c.args.i sheet-in-p.count_bound.1 in sheet-in-here)); numbers_len = ap length (cut-part a.numbers.now (a.i * numbers_size) numbers_size (a.i * numbers_size) numbers_size refl refl)
+                ∙ part_length a.numbers.now (a.i * numbers_size) numbers_size (omega (arith, p.count_bound.1, p.sized.numbers-size)); bits_len = ap length (cut-part a.bits.now _ _ _ _ (ap (λ (k : ℕ). a.i * k) bits) bits) ∙ part_length a.bits.now _ _ ((let bits_in-here : c.args.i * data_bytes ((code_with c.args.plan.now c.args.h)) + data_bytes ((code_with c.args.plan.now c.args.h)) ≤ length c.args.bits.now = let bits_in-p = c.requires in
+    bits_inside c.args.plan.now ((code_with c.args.plan.now c.args.h)) (framed-code _ _ bits_in-p.accepted_with.framed) c.args.count ((lent c.args.stack.now c.args.numbers.now c.args.bits.now)) bits_in-p.sized c.args.i bits_in-p.count_bound.1 in bits_in-here)) }
