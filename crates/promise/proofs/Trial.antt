@@ -106,7 +106,7 @@ trial-stops lay plan ok sheet old form l n =
     let A = accepted-plan plan ok in
     let R = answers lay plan ok sheet old form l in
     let t = first lay plan A sheet in
-    let S = first_stops lay plan A sheet (R.some_Fits.0 n) in
+    let S = first_stops lay plan A sheet (R.some_fits.0 n) in
     (t, S, R.takes (trial_cells (code_of plan) t) S.fits.0 S.fits.1)
 
 pub trial-ends : promise.TrialEnds
