@@ -11,10 +11,16 @@ unfolding part_of
 returns c = ap (λ (p : Part). part_of p c.args.second.now) c.differing_part-part.ensures
 
 pub slice_bounds-result-count : goal.slice_bounds-result-count
-slice_bounds-result-count c = ((let inside-here : Inside c.differing_part-part.result (length c.args.second.now) = rw c.differing_part-part.ensures (part-inside _ _ _) in inside-here)).ordered
+slice_bounds-result-count c =
+    let inside : Inside c.differing_part-part.result (length c.args.second.now) = rw c.differing_part-part.ensures (part-inside _ _ _) in
+    inside.ordered
 
 pub slice_bounds-result-start : goal.slice_bounds-result-start
-slice_bounds-result-start c = ((let inside-here : Inside c.differing_part-part.result (length c.args.second.now) = rw c.differing_part-part.ensures (part-inside _ _ _) in inside-here)).ordered
+slice_bounds-result-start c =
+    let inside : Inside c.differing_part-part.result (length c.args.second.now) = rw c.differing_part-part.ensures (part-inside _ _ _) in
+    inside.ordered
 
 pub slice_bounds-result-end : goal.slice_bounds-result-end
-slice_bounds-result-end c = ((let inside-here : Inside c.differing_part-part.result (length c.args.second.now) = rw c.differing_part-part.ensures (part-inside _ _ _) in inside-here)).within
+slice_bounds-result-end c =
+    let inside : Inside c.differing_part-part.result (length c.args.second.now) = rw c.differing_part-part.ensures (part-inside _ _ _) in
+    inside.within

@@ -10,10 +10,12 @@ use Rattle.houseplan.proofs.make_house.Goals as goal
 
 pub returns-then-given-ne0 : goal.returns-then-given-ne0
 returns-then-given-ne0 c =
-    make-given _ _ ((let given-here : c.given_checks-given.result ≡ given_checks house_parameters (length c.args.plan.now) = c.given_checks-given.ensures
-    ∙ ap (λ (g : Parameters). given_checks g (length c.args.plan.now)) c.parameters.ensures in given-here)) c.if-given-ne0.true
+    let given : c.given_checks-given.result ≡ given_checks house_parameters (length c.args.plan.now) = c.given_checks-given.ensures
+    ∙ ap (λ (g : Parameters). given_checks g (length c.args.plan.now)) c.parameters.ensures in
+    make-given _ _ given c.if-given-ne0.true
 
 pub make_checked-requires : goal.make_checked-requires
 make_checked-requires c =
-    same-zero ((let given-here : c.given_checks-given.result ≡ given_checks house_parameters (length c.args.plan.now) = c.given_checks-given.ensures
-    ∙ ap (λ (g : Parameters). given_checks g (length c.args.plan.now)) c.parameters.ensures in given-here)) c.if-given-ne0.false
+    let given : c.given_checks-given.result ≡ given_checks house_parameters (length c.args.plan.now) = c.given_checks-given.ensures
+    ∙ ap (λ (g : Parameters). given_checks g (length c.args.plan.now)) c.parameters.ensures in
+    same-zero given c.if-given-ne0.false

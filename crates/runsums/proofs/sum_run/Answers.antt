@@ -21,26 +21,35 @@ returns-then-verdict-ne0 c =
     ap (λ (v : Verdict). summed v a.room.now) e ∙ sym (sum-refused _ _ _ _ _ (λ z. c.if-verdict-ne0.true (ap (λ (v : Verdict). v.number) e ∙ z)))
 
 pub header_of-requires : goal.header_of-requires
-header_of-requires c = let m = (let ready-here : let ready-ta = c.args in MaySum ready-ta.plan.now ready-ta.sheet.now ready-ta.room.now = sum-zero _ _ _ ((let passes-here : let passes-ta = c.args in (sums_checks passes-ta.plan.now passes-ta.sheet.now passes-ta.room.now).number ≡ 0 = checked-passes c.sums_checks-verdict.ensures c.if-verdict-ne0.false in passes-here)) in ready-here) in omega (arith, m.right.accepted.framed.long)
+header_of-requires c =
+    let passes : let a = c.args in (sums_checks a.plan.now a.sheet.now a.room.now).number ≡ 0 = checked-passes c.sums_checks-verdict.ensures c.if-verdict-ne0.false in
+    let ready : let a = c.args in MaySum a.plan.now a.sheet.now a.room.now = sum-zero _ _ _ passes in
+    let m = ready in omega (arith, m.right.accepted.framed.long)
 
 pub sums-requires : goal.sums-requires
 unfolding code_of
 sums-requires c =
-    let m = ((let ready-here : let ready-ta = c.args in MaySum ready-ta.plan.now ready-ta.sheet.now ready-ta.room.now = sum-zero _ _ _ ((let passes-here : let passes-ta = c.args in (sums_checks passes-ta.plan.now passes-ta.sheet.now passes-ta.room.now).number ≡ 0 = checked-passes c.sums_checks-verdict.ensures c.if-verdict-ne0.false in passes-here)) in ready-here)).right in
+    let passes : let a = c.args in (sums_checks a.plan.now a.sheet.now a.room.now).number ≡ 0 = checked-passes c.sums_checks-verdict.ensures c.if-verdict-ne0.false in
+    let ready : let a = c.args in MaySum a.plan.now a.sheet.now a.room.now = sum-zero _ _ _ passes in
+    let m = ready.right in
     let u = c.sums_checks-verdict.ensures.unpacked c.if-verdict-ne0.false in
     rw c.header_of.ensures (record { framed = m.accepted.framed; unpacked = u; sheet_len = m.form.size })
 
 pub put_sums-requires : goal.put_sums-requires
-put_sums-requires c = ((let ready-here : let ready-ta = c.args in MaySum ready-ta.plan.now ready-ta.sheet.now ready-ta.room.now = sum-zero _ _ _ ((let passes-here : let passes-ta = c.args in (sums_checks passes-ta.plan.now passes-ta.sheet.now passes-ta.room.now).number ≡ 0 = checked-passes c.sums_checks-verdict.ensures c.if-verdict-ne0.false in passes-here)) in ready-here)).room
+put_sums-requires c =
+    let passes : let a = c.args in (sums_checks a.plan.now a.sheet.now a.room.now).number ≡ 0 = checked-passes c.sums_checks-verdict.ensures c.if-verdict-ne0.false in
+    let ready : let a = c.args in MaySum a.plan.now a.sheet.now a.room.now = sum-zero _ _ _ passes in
+    ready.room
 
 pub returns : goal.returns
 unfolding code_of run_bytes
 returns c =
-    let e = c.sums_checks-verdict.ensures.verdict in
-    ap₂ summed e ((let filled-here : let filled-ta = c.args in
-    c.put_sums.new.room ≡ run_bytes (code_of filled-ta.plan.now) filled-ta.first filled-ta.past filled-ta.sheet.now = let filled-a = c.args in
-    let filled-h = c.header_of.result in
-    let filled-s : RunSums (code_with filled-a.plan.now filled-h) (cell_of filled-h.n2 filled-a.sheet.now) filled-a.first filled-a.past c.sums.result =
+    let passes : let a = c.args in (sums_checks a.plan.now a.sheet.now a.room.now).number ≡ 0 = checked-passes c.sums_checks-verdict.ensures c.if-verdict-ne0.false in
+    let filled : let a = c.args in c.put_sums.new.room ≡ run_bytes (code_of a.plan.now) a.first a.past a.sheet.now = let a = c.args in
+    let h = c.header_of.result in
+    let s : RunSums (code_with a.plan.now h) (cell_of h.n2 a.sheet.now) a.first a.past c.sums.result =
     c.sums.ensures in
     rw c.header_of.ensures
-    at (c.put_sums.ensures ∙ ap₂ (λ (v filled-h : ℕ). low_bytes 4 v ++ low_bytes 4 filled-h) filled-s.row filled-s.column) in filled-here)) ∙ sym (sum_done _ _ _ _ _ ((let passes-here : let passes-ta = c.args in (sums_checks passes-ta.plan.now passes-ta.sheet.now passes-ta.room.now).number ≡ 0 = checked-passes c.sums_checks-verdict.ensures c.if-verdict-ne0.false in passes-here)))
+    at (c.put_sums.ensures ∙ ap₂ (λ (v h : ℕ). low_bytes 4 v ++ low_bytes 4 h) s.row s.column) in
+    let e = c.sums_checks-verdict.ensures.verdict in
+    ap₂ summed e filled ∙ sym (sum_done _ _ _ _ _ passes)

@@ -9,10 +9,14 @@ use Rattle.sheet.proofs.Ranges.{PartFits, part-range}
 use Rattle.sheet.proofs.sheet_first_difference.Goals as goal
 
 pub overflow_sub-part : goal.overflow_sub-part
-overflow_sub-part c = ((let fits-here : PartFits c.differing_part-part.result = rw c.differing_part-part.ensures (part-range _ _ _) in fits-here)).ordered
+overflow_sub-part c =
+    let fits : PartFits c.differing_part-part.result = rw c.differing_part-part.ensures (part-range _ _ _) in
+    fits.ordered
 
 pub pack_part-requires : goal.pack_part-requires
-pack_part-requires c = let f = (let fits-here : PartFits c.differing_part-part.result = rw c.differing_part-part.ensures (part-range _ _ _) in fits-here) in (omega arith, omega arith)
+pack_part-requires c =
+    let fits : PartFits c.differing_part-part.result = rw c.differing_part-part.ensures (part-range _ _ _) in
+    let f = fits in (omega arith, omega arith)
 
 pub returns : goal.returns
 unfolding difference_answer

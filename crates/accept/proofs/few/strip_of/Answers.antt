@@ -33,10 +33,13 @@ overflow_add-first c =
 
 pub later-requires : goal.later-requires
 later-requires c =
-    let few = c.requires.windows.1 in record { windows = (
+    let few = c.requires.windows.1 in record {
+      windows = (
         as_long c.differ_rest.ensures.1.long c.requires.windows.0,
         record { step-most = few.step-most; here = few.here; floor-most = omega arith },
-      ); marked = c.only_zero-n.ensures.marked }
+      );
+      marked = c.only_zero-n.ensures.marked;
+    }
 
 pub returns : goal.returns
 returns c =

@@ -60,18 +60,15 @@ loop-j-smaller c = omega arith
 
 pub loop-j-preserved : goal.loop-j-preserved
 loop-j-preserved c =
+    let tested : let s = c.args in let i = c.search.i in windows_free s.t (word_at s.words.now) s.step s.size i c.loop-j.j ≡ c.pair_free.result = let l = c.loop-j in
+    c.prepare-taken.ensures.free (l.j * c.args.step) (mul-le-mul_right c.args.step l.invariant.0)
+    (window-in c.requires.0 l.j c.loop-j-test.true)
+    ∙ sym c.pair_free.ensures in
     let l = c.loop-j in (
       omega arith,
       omega arith,
       l.invariant.2,
-      l.invariant.3 ∙ row_next _ _ _ l.j _ c.loop-j-test.true ((let tested-here : let tested-ts = c.args in
-    let tested-ti = c.search.i in
-    windows_free tested-ts.t (word_at tested-ts.words.now) tested-ts.step tested-ts.size tested-ti c.loop-j.j
-    ≡ c.pair_free.result = let tested-s = c.before.before.before.before.before.before.before.before.before.before.before.before.before.before in
-    let tested-l = c.loop-j in
-    c.prepare-taken.ensures.free (tested-l.j * tested-s.args.step) (mul-le-mul_right tested-s.args.step tested-l.invariant.0)
-    (window-in tested-s.requires.0 tested-l.j c.loop-j-test.true)
-    ∙ sym c.pair_free.ensures in tested-here) ∙ c.if-not-pair_free.false),
+      l.invariant.3 ∙ row_next _ _ _ l.j _ c.loop-j-test.true (tested ∙ c.if-not-pair_free.false),
     )
 
 pub overflow_step-i : goal.overflow_step-i
@@ -92,12 +89,9 @@ returns-after-search c = c.search.invariant.2 ∙ sym (c.search.invariant.3 ∙ 
 
 pub returns-then-not-pair_free : goal.returns-then-not-pair_free
 returns-then-not-pair_free c =
+    let tested : let s = c.args in let i = c.search.i in windows_free s.t (word_at s.words.now) s.step s.size i c.loop-j.j ≡ c.pair_free.result = let l = c.loop-j in
+    c.prepare-taken.ensures.free (l.j * c.args.step) (mul-le-mul_right c.args.step l.invariant.0)
+    (window-in c.requires.0 l.j c.loop-j-test.true)
+    ∙ sym c.pair_free.ensures in
     let l = c.loop-j in
-    sym (l.invariant.3 ∙ row-fails _ _ _ l.j _ c.loop-j-test.true ((let tested-here : let tested-ts = c.args in
-    let tested-ti = c.search.i in
-    windows_free tested-ts.t (word_at tested-ts.words.now) tested-ts.step tested-ts.size tested-ti c.loop-j.j
-    ≡ c.pair_free.result = let tested-s = c.before.before.before.before.before.before.before.before.before.before.before.before.before.before in
-    let tested-l = c.loop-j in
-    c.prepare-taken.ensures.free (tested-l.j * tested-s.args.step) (mul-le-mul_right tested-s.args.step tested-l.invariant.0)
-    (window-in tested-s.requires.0 tested-l.j c.loop-j-test.true)
-    ∙ sym c.pair_free.ensures in tested-here) ∙ c.if-not-pair_free.true))
+    sym (l.invariant.3 ∙ row-fails _ _ _ l.j _ c.loop-j-test.true (tested ∙ c.if-not-pair_free.true))

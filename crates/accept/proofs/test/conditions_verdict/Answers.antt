@@ -12,11 +12,14 @@ module _ (code : Code) where
   at_rows : {v : Verdict} → v ≡ rows_verdict code → (v.number ≡ 0 → ⊥) → v ≡ conditions_verdict code
   unfolding conditions_verdict
   at_rows e n = e ∙ sym (else-first (rows_verdict code) _ (λ z. n (ap (λ (v : Verdict). v.number) e ∙ z)))
+
   passed : {v : Verdict} → v ≡ rows_verdict code → v.number ≡ 0 → conditions_verdict code ≡ (columns_verdict code or_else checks_verdict code)
   unfolding conditions_verdict
   passed e n = else-second (rows_verdict code) (columns_verdict code or_else checks_verdict code) (ap (λ (v : Verdict). v.number) (sym e) ∙ n)
+
   at-columns : {r v : Verdict} → r ≡ rows_verdict code → r.number ≡ 0 → v ≡ columns_verdict code → (v.number ≡ 0 → ⊥) → v ≡ conditions_verdict code
   at-columns er nr e n = e ∙ sym (passed er nr ∙ else-first (columns_verdict code) _ (λ z. n (ap (λ (v : Verdict). v.number) e ∙ z)))
+
   at-checks : {r v w : Verdict} → r ≡ rows_verdict code → r.number ≡ 0 → v ≡ columns_verdict code → v.number ≡ 0 → w ≡ checks_verdict code
       → w ≡ conditions_verdict code
   at-checks er nr e n ew = ew ∙ sym (passed er nr ∙ else-second (columns_verdict code) _ (ap (λ (v : Verdict). v.number) (sym e) ∙ n))

@@ -16,8 +16,10 @@ module _ (s : List ℕ) where
   at-form : {v : Verdict} → v ≡ form_verdict s → (v.number ≡ 0 → ⊥) → v ≡ plan_verdict s
   unfolding plan_verdict
   at-form e n = e ∙ sym (else-first (form_verdict s) _ (λ z. n (ap (λ (v : Verdict). v.number) e ∙ z)))
+
   form-passes : {v : Verdict} → v ≡ form_verdict s → v.number ≡ 0 → (form_verdict s).number ≡ 0
   form-passes e n = ap (λ (v : Verdict). v.number) (sym e) ∙ n
+
   at-conditions : {v w : Verdict} → v ≡ form_verdict s → v.number ≡ 0 → w ≡ conditions_verdict (code_with s (header_of s)) → w ≡ plan_verdict s
   unfolding plan_verdict code_of
   at-conditions e n f = f ∙ sym (else-second (form_verdict s) _ (form-passes e n))

@@ -16,16 +16,22 @@ returns-then-verdict-ne0 c =
     ap (λ (v : Verdict). altered v s.sheet.now) e ∙ sym (alter-refused _ _ _ (λ z. c.if-verdict-ne0.true (ap (λ (v : Verdict). v.number) e ∙ z)))
 
 pub header_of-requires : goal.header_of-requires
-header_of-requires c = let m = (let ready-here : let ready-ta = c.args in MayAlter ready-ta.plan.now ready-ta.sheet.now ready-ta.position = alter-zero _ _ _ ((let passes-here : let passes-ta = c.args in (alter_checks passes-ta.plan.now passes-ta.sheet.now passes-ta.position).number ≡ 0 = ap (λ (v : Verdict). v.number) (sym c.alter_checks-verdict.ensures) ∙ c.if-verdict-ne0.false in passes-here)) in ready-here) in omega (arith, m.right.accepted.framed.long)
+header_of-requires c =
+    let passes : let a = c.args in (alter_checks a.plan.now a.sheet.now a.position).number ≡ 0 = ap (λ (v : Verdict). v.number) (sym c.alter_checks-verdict.ensures) ∙ c.if-verdict-ne0.false in
+    let ready : let a = c.args in MayAlter a.plan.now a.sheet.now a.position = alter-zero _ _ _ passes in
+    let m = ready in omega (arith, m.right.accepted.framed.long)
 
 pub alter_sheet-requires : goal.alter_sheet-requires
 unfolding code_of
 alter_sheet-requires c =
-    let m = (let ready-here : let ready-ta = c.args in MayAlter ready-ta.plan.now ready-ta.sheet.now ready-ta.position = alter-zero _ _ _ ((let passes-here : let passes-ta = c.args in (alter_checks passes-ta.plan.now passes-ta.sheet.now passes-ta.position).number ≡ 0 = ap (λ (v : Verdict). v.number) (sym c.alter_checks-verdict.ensures) ∙ c.if-verdict-ne0.false in passes-here)) in ready-here) in
+    let passes : let a = c.args in (alter_checks a.plan.now a.sheet.now a.position).number ≡ 0 = ap (λ (v : Verdict). v.number) (sym c.alter_checks-verdict.ensures) ∙ c.if-verdict-ne0.false in
+    let ready : let a = c.args in MayAlter a.plan.now a.sheet.now a.position = alter-zero _ _ _ passes in
+    let m = ready in
     rw c.header_of.ensures (record { accepted_with = accepted-with _ _ refl m.right.accepted; position_bound = m.below; right_form = m.right.form; belongs = m.belongs })
 
 pub returns : goal.returns
 unfolding altered_bytes code_of written_in
 returns c =
-    ap₂ altered c.alter_checks-verdict.ensures ((let whole-here : let whole-ta = c.args in
-    c.alter_sheet.new.sheet ≡ altered_bytes whole-ta.plan.now whole-ta.sheet.now whole-ta.position = rw c.header_of.ensures at c.alter_sheet.ensures in whole-here)) ∙ sym (alter-done _ _ _ ((let passes-here : let passes-ta = c.args in (alter_checks passes-ta.plan.now passes-ta.sheet.now passes-ta.position).number ≡ 0 = ap (λ (v : Verdict). v.number) (sym c.alter_checks-verdict.ensures) ∙ c.if-verdict-ne0.false in passes-here)))
+    let passes : let a = c.args in (alter_checks a.plan.now a.sheet.now a.position).number ≡ 0 = ap (λ (v : Verdict). v.number) (sym c.alter_checks-verdict.ensures) ∙ c.if-verdict-ne0.false in
+    let whole : let a = c.args in c.alter_sheet.new.sheet ≡ altered_bytes a.plan.now a.sheet.now a.position = rw c.header_of.ensures at c.alter_sheet.ensures in
+    ap₂ altered c.alter_checks-verdict.ensures whole ∙ sym (alter-done _ _ _ passes)

@@ -10,30 +10,29 @@ use Rattle.alter.proofs.altering.alter_sheet.Goals as goal
 
 pub joint_entry-joint-requires : goal.joint_entry-joint-requires
 joint_entry-joint-requires c =
-    let A = c.requires.accepted_with in record { framed = A.framed; formed = A.formed; i_lt_n1 = (let on-sheet-here : let on-sheet-th = c.args.h in (c.data_cell-cell.result.row < on-sheet-th.n1) × (c.data_cell-cell.result.column < on-sheet-th.n2) = let on-sheet-p = c.requires in
-    let on-sheet-e = c.data_cell-cell.ensures in
-    (omega (arith, on-sheet-e.row, row_on _ on-sheet-p.accepted_with.formed _ on-sheet-p.position_bound), omega (arith, on-sheet-e.column, column-on _ on-sheet-p.accepted_with.formed _ on-sheet-p.position_bound)) in on-sheet-here) }
+    let on-sheet : let h = c.args.h in (c.data_cell-cell.result.row < h.n1) × (c.data_cell-cell.result.column < h.n2) = let p = c.requires in
+    let e = c.data_cell-cell.ensures in
+    (omega (arith, e.row, row_on _ p.accepted_with.formed _ p.position_bound), omega (arith, e.column, column-on _ p.accepted_with.formed _ p.position_bound)) in
+    let A = c.requires.accepted_with in record { framed = A.framed; formed = A.formed; i_lt_n1 = on-sheet }
 
 pub turn-requires : goal.turn-requires
 turn-requires c =
+    let on-sheet : let h = c.args.h in (c.data_cell-cell.result.row < h.n1) × (c.data_cell-cell.result.column < h.n2) = let p = c.requires in
+    let e = c.data_cell-cell.ensures in
+    (omega (arith, e.row, row_on _ p.accepted_with.formed _ p.position_bound), omega (arith, e.column, column-on _ p.accepted_with.formed _ p.position_bound)) in
     let p = c.requires in
-    let b = byte_inside _ _ ((let on-sheet-here : let on-sheet-th = c.args.h in (c.data_cell-cell.result.row < on-sheet-th.n1) × (c.data_cell-cell.result.column < on-sheet-th.n2) = let on-sheet-p = c.requires in
-    let on-sheet-e = c.data_cell-cell.ensures in
-    (omega (arith, on-sheet-e.row, row_on _ on-sheet-p.accepted_with.formed _ on-sheet-p.position_bound), omega (arith, on-sheet-e.column, column-on _ on-sheet-p.accepted_with.formed _ on-sheet-p.position_bound)) in on-sheet-here)).1 _ _ ((let on-sheet-here : let on-sheet-th = c.args.h in (c.data_cell-cell.result.row < on-sheet-th.n1) × (c.data_cell-cell.result.column < on-sheet-th.n2) = let on-sheet-p = c.requires in
-    let on-sheet-e = c.data_cell-cell.ensures in
-    (omega (arith, on-sheet-e.row, row_on _ on-sheet-p.accepted_with.formed _ on-sheet-p.position_bound), omega (arith, on-sheet-e.column, column-on _ on-sheet-p.accepted_with.formed _ on-sheet-p.position_bound)) in on-sheet-here)).0 in
+    let b = byte_inside _ _ on-sheet.1 _ _ on-sheet.0 in
     (omega (arith, p.accepted_with.formed.n2-most), omega (arith, p.right_form.size))
 
 pub balance-requires : goal.balance-requires
 balance-requires c =
+    let on-sheet : let h = c.args.h in (c.data_cell-cell.result.row < h.n1) × (c.data_cell-cell.result.column < h.n2) = let p = c.requires in
+    let e = c.data_cell-cell.ensures in
+    (omega (arith, e.row, row_on _ p.accepted_with.formed _ p.position_bound), omega (arith, e.column, column-on _ p.accepted_with.formed _ p.position_bound)) in
     let p = c.requires in
     let f = p.right_form in
-    let i = ((let on-sheet-here : let on-sheet-th = c.args.h in (c.data_cell-cell.result.row < on-sheet-th.n1) × (c.data_cell-cell.result.column < on-sheet-th.n2) = let on-sheet-p = c.requires in
-    let on-sheet-e = c.data_cell-cell.ensures in
-    (omega (arith, on-sheet-e.row, row_on _ on-sheet-p.accepted_with.formed _ on-sheet-p.position_bound), omega (arith, on-sheet-e.column, column-on _ on-sheet-p.accepted_with.formed _ on-sheet-p.position_bound)) in on-sheet-here)).0 in
-    let j = ((let on-sheet-here : let on-sheet-th = c.args.h in (c.data_cell-cell.result.row < on-sheet-th.n1) × (c.data_cell-cell.result.column < on-sheet-th.n2) = let on-sheet-p = c.requires in
-    let on-sheet-e = c.data_cell-cell.ensures in
-    (omega (arith, on-sheet-e.row, row_on _ on-sheet-p.accepted_with.formed _ on-sheet-p.position_bound), omega (arith, on-sheet-e.column, column-on _ on-sheet-p.accepted_with.formed _ on-sheet-p.position_bound)) in on-sheet-here)).1 in
+    let i = on-sheet.0 in
+    let j = on-sheet.1 in
     record {
       accepted_with = p.accepted_with;
       form_in = rw c.turn.ensures (turned-form _ _ _ f _ _ i j);

@@ -14,18 +14,22 @@ unfolding alter_checks
 returns-then-form-ne0 c = stops _ _ c.form_checks-form.ensures.verdict c.if-form-ne0.true
 
 pub header_of-h-requires : goal.header_of-h-requires
-header_of-h-requires c = let F = (let ready-here : let ready-ta = c.args in InForm ready-ta.plan.now ready-ta.sheet.now = form-zero _ _ (checked-passes c.form_checks-form.ensures c.if-form-ne0.false) in ready-here) in omega (arith, F.accepted.framed.long)
+header_of-h-requires c =
+    let ready : let a = c.args in InForm a.plan.now a.sheet.now = form-zero _ _ (checked-passes c.form_checks-form.ensures c.if-form-ne0.false) in
+    let F = ready in omega (arith, F.accepted.framed.long)
 
 pub position_verdict-placed-requires : goal.position_verdict-placed-requires
 unfolding code_of
 position_verdict-placed-requires c =
-    let F = (let ready-here : let ready-ta = c.args in InForm ready-ta.plan.now ready-ta.sheet.now = form-zero _ _ (checked-passes c.form_checks-form.ensures c.if-form-ne0.false) in ready-here) in
+    let ready : let a = c.args in InForm a.plan.now a.sheet.now = form-zero _ _ (checked-passes c.form_checks-form.ensures c.if-form-ne0.false) in
+    let F = ready in
     rw c.header_of-h.ensures (record { small = F.accepted.framed.small; rh_bound = checks-fit _ F.accepted.formed })
 
 pub belong_verdict-belongs-requires : goal.belong_verdict-belongs-requires
 unfolding code_of
 belong_verdict-belongs-requires c =
-    let F = (let ready-here : let ready-ta = c.args in InForm ready-ta.plan.now ready-ta.sheet.now = form-zero _ _ (checked-passes c.form_checks-form.ensures c.if-form-ne0.false) in ready-here) in
+    let ready : let a = c.args in InForm a.plan.now a.sheet.now = form-zero _ _ (checked-passes c.form_checks-form.ensures c.if-form-ne0.false) in
+    let F = ready in
     let u = c.form_checks-form.ensures.unpacked c.if-form-ne0.false in
     rw c.header_of-h.ensures (record { framed = F.accepted.framed; formed = F.accepted.formed; unpacked = u; sheet_len = F.form.size })
 

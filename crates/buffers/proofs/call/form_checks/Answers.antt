@@ -12,12 +12,15 @@ unfolding form_checks
 returns-then-checked-ne0 c = checked-stops _ _ c.sheet_checks-checked.ensures c.if-checked-ne0.true
 
 pub header_of-requires : goal.header_of-requires
-header_of-requires c = let F = (let ready-here : let ready-ta = c.args in SheetFits ByRow ready-ta.plan.now ready-ta.sheet.now = sheet-zero ByRow _ _ (checked-passes c.sheet_checks-checked.ensures c.if-checked-ne0.false) in ready-here) in omega (arith, F.accepted.framed.long)
+header_of-requires c =
+    let ready : let a = c.args in SheetFits ByRow a.plan.now a.sheet.now = sheet-zero ByRow _ _ (checked-passes c.sheet_checks-checked.ensures c.if-checked-ne0.false) in
+    let F = ready in omega (arith, F.accepted.framed.long)
 
 pub sheet_unused-requires : goal.sheet_unused-requires
 unfolding code_of
 sheet_unused-requires c =
-    let F = (let ready-here : let ready-ta = c.args in SheetFits ByRow ready-ta.plan.now ready-ta.sheet.now = sheet-zero ByRow _ _ (checked-passes c.sheet_checks-checked.ensures c.if-checked-ne0.false) in ready-here) in
+    let ready : let a = c.args in SheetFits ByRow a.plan.now a.sheet.now = sheet-zero ByRow _ _ (checked-passes c.sheet_checks-checked.ensures c.if-checked-ne0.false) in
+    let F = ready in
     rw c.header_of.ensures (record { small = F.accepted.framed.small; sheet_len = F.sheet-size })
 
 pub returns : goal.returns

@@ -13,12 +13,15 @@ unfolding length_checks
 returns-then-checked-ne0 c = checked-stops _ _ c.sheet_checks-checked.ensures c.if-checked-ne0.true
 
 pub header_of-requires : goal.header_of-requires
-header_of-requires c = let F = (let ready-here : let ready-ta = c.args in SheetFits ready-ta.lay ready-ta.plan.now ready-ta.sheet.now = sheet-zero _ _ _ (checked-passes c.sheet_checks-checked.ensures c.if-checked-ne0.false) in ready-here) in omega (arith, F.accepted.framed.long)
+header_of-requires c =
+    let ready : let a = c.args in SheetFits a.lay a.plan.now a.sheet.now = sheet-zero _ _ _ (checked-passes c.sheet_checks-checked.ensures c.if-checked-ne0.false) in
+    let F = ready in omega (arith, F.accepted.framed.long)
 
 pub data_length-requires : goal.data_length-requires
 unfolding code_of
 data_length-requires c =
-    let A = ((let ready-here : let ready-ta = c.args in SheetFits ready-ta.lay ready-ta.plan.now ready-ta.sheet.now = sheet-zero _ _ _ (checked-passes c.sheet_checks-checked.ensures c.if-checked-ne0.false) in ready-here)).accepted in
+    let ready : let a = c.args in SheetFits a.lay a.plan.now a.sheet.now = sheet-zero _ _ _ (checked-passes c.sheet_checks-checked.ensures c.if-checked-ne0.false) in
+    let A = ready.accepted in
     rw c.header_of.ensures (record { small = A.framed.small; rh_bound = checks-fit _ A.formed })
 
 pub returns : goal.returns

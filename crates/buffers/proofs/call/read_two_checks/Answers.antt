@@ -14,18 +14,22 @@ unfolding read_two_checks
 returns-then-lengths-ne0 c = checked-stops _ _ c.scan_lengths-lengths.ensures c.if-lengths-ne0.true
 
 pub header_of-h-requires : goal.header_of-h-requires
-header_of-h-requires c = let F = (let ready-here : let ready-ta = c.args in ScansFit ready-ta.plan.now ready-ta.first.now ready-ta.second.now = scans-fit _ _ _ (checked-passes c.scan_lengths-lengths.ensures c.if-lengths-ne0.false) in ready-here) in omega (arith, F.accepted.framed.long)
+header_of-h-requires c =
+    let ready : let a = c.args in ScansFit a.plan.now a.first.now a.second.now = scans-fit _ _ _ (checked-passes c.scan_lengths-lengths.ensures c.if-lengths-ne0.false) in
+    let F = ready in omega (arith, F.accepted.framed.long)
 
 pub data_length-size-requires : goal.data_length-size-requires
 unfolding code_of
 data_length-size-requires c =
-    let A = ((let ready-here : let ready-ta = c.args in ScansFit ready-ta.plan.now ready-ta.first.now ready-ta.second.now = scans-fit _ _ _ (checked-passes c.scan_lengths-lengths.ensures c.if-lengths-ne0.false) in ready-here)).accepted in
+    let ready : let a = c.args in ScansFit a.plan.now a.first.now a.second.now = scans-fit _ _ _ (checked-passes c.scan_lengths-lengths.ensures c.if-lengths-ne0.false) in
+    let A = ready.accepted in
     rw c.header_of-h.ensures (record { small = A.framed.small; rh_bound = checks-fit _ A.formed })
 
 pub scans_unused-unused-requires : goal.scans_unused-unused-requires
 unfolding code_of
 scans_unused-unused-requires c =
-    let F = (let ready-here : let ready-ta = c.args in ScansFit ready-ta.plan.now ready-ta.first.now ready-ta.second.now = scans-fit _ _ _ (checked-passes c.scan_lengths-lengths.ensures c.if-lengths-ne0.false) in ready-here) in
+    let ready : let a = c.args in ScansFit a.plan.now a.first.now a.second.now = scans-fit _ _ _ (checked-passes c.scan_lengths-lengths.ensures c.if-lengths-ne0.false) in
+    let F = ready in
     rw c.header_of-h.ensures (record { small = F.accepted.framed.small; first_len = F.first-size; second_len = F.second-size })
 
 pub returns : goal.returns

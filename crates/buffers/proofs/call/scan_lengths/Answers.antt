@@ -12,10 +12,14 @@ unfolding scan_lengths
 returns-then-checked-ne0 c = checked-stops _ _ c.sheet_checks-checked.ensures c.if-checked-ne0.true
 
 pub header_of-requires : goal.header_of-requires
-header_of-requires c = let F = (let ready-here : let ready-ta = c.args in SheetFits ByRow ready-ta.plan.now ready-ta.first.now = sheet-zero ByRow _ _ (checked-passes c.sheet_checks-checked.ensures c.if-checked-ne0.false) in ready-here) in omega (arith, F.accepted.framed.long)
+header_of-requires c =
+    let ready : let a = c.args in SheetFits ByRow a.plan.now a.first.now = sheet-zero ByRow _ _ (checked-passes c.sheet_checks-checked.ensures c.if-checked-ne0.false) in
+    let F = ready in omega (arith, F.accepted.framed.long)
 
 pub sheet_length-requires : goal.sheet_length-requires
-sheet_length-requires c = rw c.header_of.ensures ((let ready-here : let ready-ta = c.args in SheetFits ByRow ready-ta.plan.now ready-ta.first.now = sheet-zero ByRow _ _ (checked-passes c.sheet_checks-checked.ensures c.if-checked-ne0.false) in ready-here)).accepted.framed.small
+sheet_length-requires c =
+    let ready : let a = c.args in SheetFits ByRow a.plan.now a.first.now = sheet-zero ByRow _ _ (checked-passes c.sheet_checks-checked.ensures c.if-checked-ne0.false) in
+    rw c.header_of.ensures ready.accepted.framed.small
 
 pub returns : goal.returns
 unfolding code_of scan_lengths

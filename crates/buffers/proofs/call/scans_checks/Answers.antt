@@ -11,12 +11,15 @@ unfolding scans_checks
 returns-then-lengths-ne0 c = checked-stops _ _ c.scan_lengths-lengths.ensures c.if-lengths-ne0.true
 
 pub header_of-requires : goal.header_of-requires
-header_of-requires c = let F = (let ready-here : let ready-ta = c.args in ScansFit ready-ta.plan.now ready-ta.first.now ready-ta.second.now = scans-fit _ _ _ (checked-passes c.scan_lengths-lengths.ensures c.if-lengths-ne0.false) in ready-here) in omega (arith, F.accepted.framed.long)
+header_of-requires c =
+    let ready : let a = c.args in ScansFit a.plan.now a.first.now a.second.now = scans-fit _ _ _ (checked-passes c.scan_lengths-lengths.ensures c.if-lengths-ne0.false) in
+    let F = ready in omega (arith, F.accepted.framed.long)
 
 pub scans_unused-requires : goal.scans_unused-requires
 unfolding code_of
 scans_unused-requires c =
-    let F = (let ready-here : let ready-ta = c.args in ScansFit ready-ta.plan.now ready-ta.first.now ready-ta.second.now = scans-fit _ _ _ (checked-passes c.scan_lengths-lengths.ensures c.if-lengths-ne0.false) in ready-here) in
+    let ready : let a = c.args in ScansFit a.plan.now a.first.now a.second.now = scans-fit _ _ _ (checked-passes c.scan_lengths-lengths.ensures c.if-lengths-ne0.false) in
+    let F = ready in
     rw c.header_of.ensures (record { small = F.accepted.framed.small; first_len = F.first-size; second_len = F.second-size })
 
 pub returns : goal.returns

@@ -13,10 +13,14 @@ unfolding sheet_checks
 returns-then-tested-ne0 c = checked-stops _ _ c.test-tested.ensures c.if-tested-ne0.true
 
 pub header_of-requires : goal.header_of-requires
-header_of-requires c = let A = (let ready-here : Accepted c.args.plan.now = accepted-plan _ (checked-passes c.test-tested.ensures c.if-tested-ne0.false) in ready-here) in omega (arith, A.framed.long)
+header_of-requires c =
+    let ready : Accepted c.args.plan.now = accepted-plan _ (checked-passes c.test-tested.ensures c.if-tested-ne0.false) in
+    let A = ready in omega (arith, A.framed.long)
 
 pub sheet_length-requires : goal.sheet_length-requires
-sheet_length-requires c = rw c.header_of.ensures ((let ready-here : Accepted c.args.plan.now = accepted-plan _ (checked-passes c.test-tested.ensures c.if-tested-ne0.false) in ready-here)).framed.small
+sheet_length-requires c =
+    let ready : Accepted c.args.plan.now = accepted-plan _ (checked-passes c.test-tested.ensures c.if-tested-ne0.false) in
+    rw c.header_of.ensures ready.framed.small
 
 pub returns : goal.returns
 unfolding code_of sheet_checks

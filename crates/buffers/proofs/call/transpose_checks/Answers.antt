@@ -13,15 +13,20 @@ unfolding transpose_checks
 returns-then-checked-ne0 c = checked-stops _ _ c.sheet_checks-checked.ensures c.if-checked-ne0.true
 
 pub header_of-h-requires : goal.header_of-h-requires
-header_of-h-requires c = let F = (let ready-here : let ready-ta = c.args in SheetFits ready-ta.lay ready-ta.plan.now ready-ta.source.now = sheet-zero _ _ _ (checked-passes c.sheet_checks-checked.ensures c.if-checked-ne0.false) in ready-here) in omega (arith, F.accepted.framed.long)
+header_of-h-requires c =
+    let ready : let a = c.args in SheetFits a.lay a.plan.now a.source.now = sheet-zero _ _ _ (checked-passes c.sheet_checks-checked.ensures c.if-checked-ne0.false) in
+    let F = ready in omega (arith, F.accepted.framed.long)
 
 pub sheet_length-room-requires : goal.sheet_length-room-requires
-sheet_length-room-requires c = rw c.header_of-h.ensures ((let ready-here : let ready-ta = c.args in SheetFits ready-ta.lay ready-ta.plan.now ready-ta.source.now = sheet-zero _ _ _ (checked-passes c.sheet_checks-checked.ensures c.if-checked-ne0.false) in ready-here)).accepted.framed.small
+sheet_length-room-requires c =
+    let ready : let a = c.args in SheetFits a.lay a.plan.now a.source.now = sheet-zero _ _ _ (checked-passes c.sheet_checks-checked.ensures c.if-checked-ne0.false) in
+    rw c.header_of-h.ensures ready.accepted.framed.small
 
 pub sheet_unused-unused-requires : goal.sheet_unused-unused-requires
 unfolding code_of
 sheet_unused-unused-requires c =
-    let F = (let ready-here : let ready-ta = c.args in SheetFits ready-ta.lay ready-ta.plan.now ready-ta.source.now = sheet-zero _ _ _ (checked-passes c.sheet_checks-checked.ensures c.if-checked-ne0.false) in ready-here) in
+    let ready : let a = c.args in SheetFits a.lay a.plan.now a.source.now = sheet-zero _ _ _ (checked-passes c.sheet_checks-checked.ensures c.if-checked-ne0.false) in
+    let F = ready in
     rw c.header_of-h.ensures (record { small = F.accepted.framed.small; sheet_len = F.sheet-size })
 
 pub returns : goal.returns

@@ -14,14 +14,14 @@ returns-then-lengths-ne0 c = checked-stops _ _ c.length_checks-lengths.ensures c
 
 pub header_of-requires : goal.header_of-requires
 header_of-requires c =
-    let L = (let ready-here : let ready-ta = c.args in
-    Lengths ready-ta.lay ready-ta.plan.now ready-ta.sheet.now ready-ta.bits.now = length-zero _ _ _ _ (checked-passes c.length_checks-lengths.ensures c.if-lengths-ne0.false) in ready-here) in omega (arith, L.accepted.framed.long)
+    let ready : let a = c.args in Lengths a.lay a.plan.now a.sheet.now a.bits.now = length-zero _ _ _ _ (checked-passes c.length_checks-lengths.ensures c.if-lengths-ne0.false) in
+    let L = ready in omega (arith, L.accepted.framed.long)
 
 pub data_unused-requires : goal.data_unused-requires
 unfolding code_of data_size
 data_unused-requires c =
-    let L = (let ready-here : let ready-ta = c.args in
-    Lengths ready-ta.lay ready-ta.plan.now ready-ta.sheet.now ready-ta.bits.now = length-zero _ _ _ _ (checked-passes c.length_checks-lengths.ensures c.if-lengths-ne0.false) in ready-here) in
+    let ready : let a = c.args in Lengths a.lay a.plan.now a.sheet.now a.bits.now = length-zero _ _ _ _ (checked-passes c.length_checks-lengths.ensures c.if-lengths-ne0.false) in
+    let L = ready in
     rw c.header_of.ensures (record { small = L.accepted.framed.small; rh_bound = checks-fit _ L.accepted.formed; bits_len = L.bits-size })
 
 pub returns : goal.returns

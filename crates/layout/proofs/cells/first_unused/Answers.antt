@@ -49,34 +49,34 @@ loop-i-init c =
 
 pub overflow_mul-k : goal.overflow_mul-k
 overflow_mul-k c =
-    let l = (let inside-here : c.loop-i.i * c.row_bytes-size.result + (c.row_bytes-size.result - 1)
-    < length c.args.s.now = let v = c.loop-i.invariant in
+    let inside : c.loop-i.i * c.row_bytes-size.result + (c.row_bytes-size.result - 1) < length c.args.s.now = let v = c.loop-i.invariant in
     let l = last-inside _ _ v.2 v.1 _ _ c.loop-i-test.true in
-    omega arith in inside-here) in omega arith
+    omega arith in
+    let l = inside in omega arith
 
 pub overflow_sub-k : goal.overflow_sub-k
 overflow_sub-k c = omega arith
 
 pub overflow_add-k : goal.overflow_add-k
 overflow_add-k c =
-    let l = (let inside-here : c.loop-i.i * c.row_bytes-size.result + (c.row_bytes-size.result - 1)
-    < length c.args.s.now = let v = c.loop-i.invariant in
+    let inside : c.loop-i.i * c.row_bytes-size.result + (c.row_bytes-size.result - 1) < length c.args.s.now = let v = c.loop-i.invariant in
     let l = last-inside _ _ v.2 v.1 _ _ c.loop-i-test.true in
-    omega arith in inside-here) in omega arith
+    omega arith in
+    let l = inside in omega arith
 
 pub bounds-s-k : goal.bounds-s-k
 bounds-s-k c =
-    let l = (let inside-here : c.loop-i.i * c.row_bytes-size.result + (c.row_bytes-size.result - 1)
-    < length c.args.s.now = let v = c.loop-i.invariant in
+    let inside : c.loop-i.i * c.row_bytes-size.result + (c.row_bytes-size.result - 1) < length c.args.s.now = let v = c.loop-i.invariant in
     let l = last-inside _ _ v.2 v.1 _ _ c.loop-i-test.true in
-    omega arith in inside-here) in omega arith
+    omega arith in
+    let l = inside in omega arith
 
 pub overflow_cast-s : goal.overflow_cast-s
 overflow_cast-s c =
-    let l = (let inside-here : c.loop-i.i * c.row_bytes-size.result + (c.row_bytes-size.result - 1)
-    < length c.args.s.now = let v = c.loop-i.invariant in
+    let inside : c.loop-i.i * c.row_bytes-size.result + (c.row_bytes-size.result - 1) < length c.args.s.now = let v = c.loop-i.invariant in
     let l = last-inside _ _ v.2 v.1 _ _ c.loop-i-test.true in
-    omega arith in inside-here) in
+    omega arith in
+    let l = inside in
     let i = c.loop-i.i in
     let size = c.row_bytes-size.result in
     omega (arith, c.shared_slice_known-in-loop-i-1.given (i * size + (size - 1)))
@@ -84,13 +84,13 @@ overflow_cast-s c =
 pub returns-then-limit-s : goal.returns-then-limit-s
 unfolding first_unused
 returns-then-limit-s c =
+    let inside : c.loop-i.i * c.row_bytes-size.result + (c.row_bytes-size.result - 1) < length c.args.s.now = let v = c.loop-i.invariant in
+    let l = last-inside _ _ v.2 v.1 _ _ c.loop-i-test.true in
+    omega arith in
     let v = c.loop-i.invariant in
     let i = c.loop-i.i in
     let known = c.shared_slice_known-in-loop-i-1.given in
-    let l = (let inside-here : c.loop-i.i * c.row_bytes-size.result + (c.row_bytes-size.result - 1)
-    < length c.args.s.now = let v = c.loop-i.invariant in
-    let l = last-inside _ _ v.2 v.1 _ _ c.loop-i-test.true in
-    omega arith in inside-here) in
+    let l = inside in
     let n = c.requires.1 in
     search-finds _ _ _ (omega arith) (row_before _ _ v.2 v.1 _ (λ k. (known k).fits) i v.4)
     (last-bad _ _ v.2 v.1 _ i (omega arith))

@@ -10,9 +10,9 @@ use Rattle.maker.proofs.making.finish.Goals as goal
 
 pub returns-then-few-ne0 : goal.returns-then-few-ne0
 returns-then-few-ne0 c =
-    outcome-refused _ _ ((let few-here : let few-ta = c.args in
-    c.refuse_if-few.result ≡ taken_verdict few-ta.h (word_at few-ta.rows.now) (word_at few-ta.columns.now) = let few-a = c.args in
-    c.refuse_if-few.ensures ∙ few-taken few-a.h few-a.rows.now few-a.columns.now _ c.take_cells-taken.ensures in few-here)) c.if-few-ne0.true
+    let few : let a = c.args in c.refuse_if-few.result ≡ taken_verdict a.h (word_at a.rows.now) (word_at a.columns.now) = let a = c.args in
+    c.refuse_if-few.ensures ∙ few-taken a.h a.rows.now a.columns.now _ c.take_cells-taken.ensures in
+    outcome-refused _ _ few c.if-few-ne0.true
 
 pub encode-requires : goal.encode-requires
 encode-requires c =
@@ -22,10 +22,10 @@ encode-requires c =
 
 pub returns : goal.returns
 returns c =
+    let few : let a = c.args in c.refuse_if-few.result ≡ taken_verdict a.h (word_at a.rows.now) (word_at a.columns.now) = let a = c.args in
+    c.refuse_if-few.ensures ∙ few-taken a.h a.rows.now a.columns.now _ c.take_cells-taken.ensures in
     let a = c.args in
-    let e = (let few-here : let few-ta = c.args in
-    c.refuse_if-few.result ≡ taken_verdict few-ta.h (word_at few-ta.rows.now) (word_at few-ta.columns.now) = let few-a = c.args in
-    c.refuse_if-few.ensures ∙ few-taken few-a.h few-a.rows.now few-a.columns.now _ c.take_cells-taken.ensures in few-here) in
+    let e = few in
     let z = c.if-few-ne0.false in
     let h = held_bytes a.h a.rows.now a.columns.now _ c.take_cells-taken.ensures (same-zero e z) in
     outcome-done _ _ e z (c.encode.ensures ∙ h)

@@ -12,32 +12,44 @@ use Rattle.maker.proofs.Tabled.{power-tables, made-equal, row-condition, column-
 use Rattle.maker.proofs.making.make_filled.Goals as goal
 
 pub ruled-h-requires : goal.ruled-h-requires
-ruled-h-requires c = rw c.numbers.ensures (small-numbers c.args.g ((let good-here : Good c.args.g (length c.args.plan.now) = given-good _ _ c.requires.plan_value in good-here)).small)
+ruled-h-requires c =
+    let good : Good c.args.g (length c.args.plan.now) = given-good _ _ c.requires.plan_value in
+    rw c.numbers.ensures (small-numbers c.args.g good.small)
 
 pub tables_verdict-tables-requires : goal.tables_verdict-tables-requires
-tables_verdict-tables-requires c = rw ((let header-here : c.ruled-h.result ≡ header_for c.args.g = c.ruled-h.ensures ∙ ap ruled c.numbers.ensures in header-here)) (record { small = ((let good-here : Good c.args.g (length c.args.plan.now) = given-good _ _ c.requires.plan_value in good-here)).small; tables = (let tables-here : Tables (header_for c.args.g) c.args.rows.now c.args.columns.now = power-tables c.args.g (header_for c.args.g) _ _ ((let good-here : Good c.args.g (length c.args.plan.now) = given-good _ _ c.requires.plan_value in good-here)).degrees c.requires.power_tables in tables-here) })
+tables_verdict-tables-requires c =
+    let good : Good c.args.g (length c.args.plan.now) = given-good _ _ c.requires.plan_value in
+    let tables : Tables (header_for c.args.g) c.args.rows.now c.args.columns.now = power-tables c.args.g (header_for c.args.g) _ _ good.degrees c.requires.power_tables in
+    let header : c.ruled-h.result ≡ header_for c.args.g = c.ruled-h.ensures ∙ ap ruled c.numbers.ensures in
+    rw header (record { small = good.small; tables = tables })
 
 pub returns-then-tables-ne0 : goal.returns-then-tables-ne0
 returns-then-tables-ne0 c =
-    make-tables _ _ c.requires.plan_value ((let tested-here : let tested-tg = c.args.g in
-    let tested-td = bare_code (header_for tested-tg) (row_table tested-tg) (column_table tested-tg) in
-    c.tables_verdict-tables.result ≡ (rows_verdict tested-td or_else columns_verdict tested-td) = let tested-g = c.args.g in
-    let tested-p = ((let good-here : Good c.args.g (length c.args.plan.now) = given-good _ _ c.requires.plan_value in good-here)).small in
-    (rw ((let header-here : c.ruled-h.result ≡ header_for c.args.g = c.ruled-h.ensures ∙ ap ruled c.numbers.ensures in header-here)) at c.tables_verdict-tables.ensures)
-    ∙ ap₂ ◌or_else◌ (row-condition tested-g (header_for tested-g) tested-p _ _ c.requires.power_tables) (column-condition tested-g (header_for tested-g) tested-p _ _ c.requires.power_tables) in tested-here)) c.if-tables-ne0.true
+    let good : Good c.args.g (length c.args.plan.now) = given-good _ _ c.requires.plan_value in
+    let header : c.ruled-h.result ≡ header_for c.args.g = c.ruled-h.ensures ∙ ap ruled c.numbers.ensures in
+    let tested : let g = c.args.g in let d = bare_code (header_for g) (row_table g) (column_table g) in c.tables_verdict-tables.result ≡ (rows_verdict d or_else columns_verdict d) = let g = c.args.g in
+    let p = good.small in
+    (rw header at c.tables_verdict-tables.ensures)
+    ∙ ap₂ ◌or_else◌ (row-condition g (header_for g) p _ _ c.requires.power_tables) (column-condition g (header_for g) p _ _ c.requires.power_tables) in
+    make-tables _ _ c.requires.plan_value tested c.if-tables-ne0.true
 
 pub finish-requires : goal.finish-requires
-finish-requires c = rw ((let header-here : c.ruled-h.result ≡ header_for c.args.g = c.ruled-h.ensures ∙ ap ruled c.numbers.ensures in header-here)) (record { small = ((let good-here : Good c.args.g (length c.args.plan.now) = given-good _ _ c.requires.plan_value in good-here)).small; h_value = ruled-twice c.args.g; tables = (let tables-here : Tables (header_for c.args.g) c.args.rows.now c.args.columns.now = power-tables c.args.g (header_for c.args.g) _ _ ((let good-here : Good c.args.g (length c.args.plan.now) = given-good _ _ c.requires.plan_value in good-here)).degrees c.requires.power_tables in tables-here); plan_len = ((let good-here : Good c.args.g (length c.args.plan.now) = given-good _ _ c.requires.plan_value in good-here)).long })
+finish-requires c =
+    let good : Good c.args.g (length c.args.plan.now) = given-good _ _ c.requires.plan_value in
+    let tables : Tables (header_for c.args.g) c.args.rows.now c.args.columns.now = power-tables c.args.g (header_for c.args.g) _ _ good.degrees c.requires.power_tables in
+    let header : c.ruled-h.result ≡ header_for c.args.g = c.ruled-h.ensures ∙ ap ruled c.numbers.ensures in
+    rw header (record { small = good.small; h_value = ruled-twice c.args.g; tables = tables; plan_len = good.long })
 
 pub returns : goal.returns
 returns c =
+    let good : Good c.args.g (length c.args.plan.now) = given-good _ _ c.requires.plan_value in
+    let header : c.ruled-h.result ≡ header_for c.args.g = c.ruled-h.ensures ∙ ap ruled c.numbers.ensures in
+    let tested : let g = c.args.g in let d = bare_code (header_for g) (row_table g) (column_table g) in c.tables_verdict-tables.result ≡ (rows_verdict d or_else columns_verdict d) = let g = c.args.g in
+    let p = good.small in
+    (rw header at c.tables_verdict-tables.ensures)
+    ∙ ap₂ ◌or_else◌ (row-condition g (header_for g) p _ _ c.requires.power_tables) (column-condition g (header_for g) p _ _ c.requires.power_tables) in
     let h = header_for c.args.g in
     let t = c.requires.power_tables in
-    (rw ((let header-here : c.ruled-h.result ≡ header_for c.args.g = c.ruled-h.ensures ∙ ap ruled c.numbers.ensures in header-here)) at c.finish.ensures)
-    ∙ made-equal h ((let good-here : Good c.args.g (length c.args.plan.now) = given-good _ _ c.requires.plan_value in good-here)).small _ _ _ _ t.row t.column c.args.plan.now
-    ∙ sym (make-taken _ _ c.requires.plan_value ((let tested-here : let tested-tg = c.args.g in
-    let tested-td = bare_code (header_for tested-tg) (row_table tested-tg) (column_table tested-tg) in
-    c.tables_verdict-tables.result ≡ (rows_verdict tested-td or_else columns_verdict tested-td) = let tested-g = c.args.g in
-    let tested-p = ((let good-here : Good c.args.g (length c.args.plan.now) = given-good _ _ c.requires.plan_value in good-here)).small in
-    (rw ((let header-here : c.ruled-h.result ≡ header_for c.args.g = c.ruled-h.ensures ∙ ap ruled c.numbers.ensures in header-here)) at c.tables_verdict-tables.ensures)
-    ∙ ap₂ ◌or_else◌ (row-condition tested-g (header_for tested-g) tested-p _ _ c.requires.power_tables) (column-condition tested-g (header_for tested-g) tested-p _ _ c.requires.power_tables) in tested-here)) c.if-tables-ne0.false)
+    (rw header at c.finish.ensures)
+    ∙ made-equal h good.small _ _ _ _ t.row t.column c.args.plan.now
+    ∙ sym (make-taken _ _ c.requires.plan_value tested c.if-tables-ne0.false)

@@ -22,13 +22,19 @@ take_row-taken-requires c =
     record { small = c.requires.small; tables = c.requires.tables; i_lt_n1 = (taken_more l.i c.args.h.n1 l.taken.count _ c.loop-i-test.true).0; held_to = l.invariant.1 }
 
 pub overflow_add-i : goal.overflow_add-i
-overflow_add-i c = omega (arith, (let row-here : c.loop-i.i < c.args.h.n1 = (taken_more c.loop-i.i c.args.h.n1 c.loop-i.taken.count _ c.loop-i-test.true).0 in row-here), c.requires.small.n1-most)
+overflow_add-i c =
+    let row : c.loop-i.i < c.args.h.n1 = (taken_more c.loop-i.i c.args.h.n1 c.loop-i.taken.count _ c.loop-i-test.true).0 in
+    omega (arith, row, c.requires.small.n1-most)
 
 pub loop-i-smaller : goal.loop-i-smaller
-loop-i-smaller c = omega (arith, (let row-here : c.loop-i.i < c.args.h.n1 = (taken_more c.loop-i.i c.args.h.n1 c.loop-i.taken.count _ c.loop-i-test.true).0 in row-here), c.requires.small.n1-most)
+loop-i-smaller c =
+    let row : c.loop-i.i < c.args.h.n1 = (taken_more c.loop-i.i c.args.h.n1 c.loop-i.taken.count _ c.loop-i-test.true).0 in
+    omega (arith, row, c.requires.small.n1-most)
 
 pub loop-i-preserved : goal.loop-i-preserved
-loop-i-preserved c = (omega (arith, (let row-here : c.loop-i.i < c.args.h.n1 = (taken_more c.loop-i.i c.args.h.n1 c.loop-i.taken.count _ c.loop-i-test.true).0 in row-here)), c.take_row-taken.ensures)
+loop-i-preserved c =
+    let row : c.loop-i.i < c.args.h.n1 = (taken_more c.loop-i.i c.args.h.n1 c.loop-i.taken.count _ c.loop-i-test.true).0 in
+    (omega (arith, row), c.take_row-taken.ensures)
 
 pub returns : goal.returns
 returns c =

@@ -43,67 +43,76 @@ sweep-left-requires c = tt
 
 pub offset_bounds-words-count : goal.offset_bounds-words-count
 offset_bounds-words-count c =
-    omega (arith, ((let below-here : (c.loop-j.j < c.args.h.n2) × (c.loop-j.count < 64) = let below-p = c.requires.small in
-    let below-t = taken_more c.loop-j.j c.args.h.n2 c.loop-j.count _ c.loop-j-test.true in
-    (below-t.0, omega (arith, below-t.1, below-p.rv-most, below-p.rh-most)) in below-here)).1)
+    let below : (c.loop-j.j < c.args.h.n2) × (c.loop-j.count < 64) = let p = c.requires.small in
+    let t = taken_more c.loop-j.j c.args.h.n2 c.loop-j.count _ c.loop-j-test.true in
+    (t.0, omega (arith, t.1, p.rv-most, p.rh-most)) in
+    omega (arith, below.1)
 
 pub bounds-words-count : goal.bounds-words-count
 bounds-words-count c =
-    omega (arith, ((let below-here : (c.loop-j.j < c.args.h.n2) × (c.loop-j.count < 64) = let below-p = c.requires.small in
-    let below-t = taken_more c.loop-j.j c.args.h.n2 c.loop-j.count _ c.loop-j-test.true in
-    (below-t.0, omega (arith, below-t.1, below-p.rv-most, below-p.rh-most)) in below-here)).1)
+    let below : (c.loop-j.j < c.args.h.n2) × (c.loop-j.count < 64) = let p = c.requires.small in
+    let t = taken_more c.loop-j.j c.args.h.n2 c.loop-j.count _ c.loop-j-test.true in
+    (t.0, omega (arith, t.1, p.rv-most, p.rh-most)) in
+    omega (arith, below.1)
 
 pub overflow_add-cells : goal.overflow_add-cells
 overflow_add-cells c =
+    let below : (c.loop-j.j < c.args.h.n2) × (c.loop-j.count < 64) = let p = c.requires.small in
+    let t = taken_more c.loop-j.j c.args.h.n2 c.loop-j.count _ c.loop-j-test.true in
+    (t.0, omega (arith, t.1, p.rv-most, p.rh-most)) in
     let p = c.requires.small in
     let m : c.args.i ≤ 512 = omega (arith, c.requires.i_lt_n1, p.n1-most) in
-    omega (arith, mul-le-mul m p.n2-most, ((let below-here : (c.loop-j.j < c.args.h.n2) × (c.loop-j.count < 64) = let below-p = c.requires.small in
-    let below-t = taken_more c.loop-j.j c.args.h.n2 c.loop-j.count _ c.loop-j-test.true in
-    (below-t.0, omega (arith, below-t.1, below-p.rv-most, below-p.rh-most)) in below-here)).0, p.n2-most)
+    omega (arith, mul-le-mul m p.n2-most, below.0, p.n2-most)
 
 pub offset_bounds-cells-count : goal.offset_bounds-cells-count
 offset_bounds-cells-count c =
-    omega (arith, ((let below-here : (c.loop-j.j < c.args.h.n2) × (c.loop-j.count < 64) = let below-p = c.requires.small in
-    let below-t = taken_more c.loop-j.j c.args.h.n2 c.loop-j.count _ c.loop-j-test.true in
-    (below-t.0, omega (arith, below-t.1, below-p.rv-most, below-p.rh-most)) in below-here)).1)
+    let below : (c.loop-j.j < c.args.h.n2) × (c.loop-j.count < 64) = let p = c.requires.small in
+    let t = taken_more c.loop-j.j c.args.h.n2 c.loop-j.count _ c.loop-j-test.true in
+    (t.0, omega (arith, t.1, p.rv-most, p.rh-most)) in
+    omega (arith, below.1)
 
 pub bounds-cells-count : goal.bounds-cells-count
 bounds-cells-count c =
-    omega (arith, ((let below-here : (c.loop-j.j < c.args.h.n2) × (c.loop-j.count < 64) = let below-p = c.requires.small in
-    let below-t = taken_more c.loop-j.j c.args.h.n2 c.loop-j.count _ c.loop-j-test.true in
-    (below-t.0, omega (arith, below-t.1, below-p.rv-most, below-p.rh-most)) in below-here)).1)
+    let below : (c.loop-j.j < c.args.h.n2) × (c.loop-j.count < 64) = let p = c.requires.small in
+    let t = taken_more c.loop-j.j c.args.h.n2 c.loop-j.count _ c.loop-j-test.true in
+    (t.0, omega (arith, t.1, p.rv-most, p.rh-most)) in
+    omega (arith, below.1)
 
 pub more_taken-count-requires : goal.more_taken-count-requires
 more_taken-count-requires c = tt
 
 pub overflow_add-count : goal.overflow_add-count
 overflow_add-count c =
-    omega (arith, ((let below-here : (c.loop-j.j < c.args.h.n2) × (c.loop-j.count < 64) = let below-p = c.requires.small in
-    let below-t = taken_more c.loop-j.j c.args.h.n2 c.loop-j.count _ c.loop-j-test.true in
-    (below-t.0, omega (arith, below-t.1, below-p.rv-most, below-p.rh-most)) in below-here)).1, c.more_taken-count.ensures.1)
+    let below : (c.loop-j.j < c.args.h.n2) × (c.loop-j.count < 64) = let p = c.requires.small in
+    let t = taken_more c.loop-j.j c.args.h.n2 c.loop-j.count _ c.loop-j-test.true in
+    (t.0, omega (arith, t.1, p.rv-most, p.rh-most)) in
+    omega (arith, below.1, c.more_taken-count.ensures.1)
 
 pub after-along-requires : goal.after-along-requires
 after-along-requires c = rw c.loop-j.invariant.1 (mod-lt c.loop-j.j c.requires.small.b2-pos)
 
 pub overflow_add-j : goal.overflow_add-j
 overflow_add-j c =
-    omega (arith, ((let below-here : (c.loop-j.j < c.args.h.n2) × (c.loop-j.count < 64) = let below-p = c.requires.small in
-    let below-t = taken_more c.loop-j.j c.args.h.n2 c.loop-j.count _ c.loop-j-test.true in
-    (below-t.0, omega (arith, below-t.1, below-p.rv-most, below-p.rh-most)) in below-here)).0)
+    let below : (c.loop-j.j < c.args.h.n2) × (c.loop-j.count < 64) = let p = c.requires.small in
+    let t = taken_more c.loop-j.j c.args.h.n2 c.loop-j.count _ c.loop-j-test.true in
+    (t.0, omega (arith, t.1, p.rv-most, p.rh-most)) in
+    omega (arith, below.0)
 
 pub loop-j-smaller : goal.loop-j-smaller
 loop-j-smaller c =
-    omega (arith, ((let below-here : (c.loop-j.j < c.args.h.n2) × (c.loop-j.count < 64) = let below-p = c.requires.small in
-    let below-t = taken_more c.loop-j.j c.args.h.n2 c.loop-j.count _ c.loop-j-test.true in
-    (below-t.0, omega (arith, below-t.1, below-p.rv-most, below-p.rh-most)) in below-here)).0)
+    let below : (c.loop-j.j < c.args.h.n2) × (c.loop-j.count < 64) = let p = c.requires.small in
+    let t = taken_more c.loop-j.j c.args.h.n2 c.loop-j.count _ c.loop-j-test.true in
+    (t.0, omega (arith, t.1, p.rv-most, p.rh-most)) in
+    omega (arith, below.0)
 
 pub loop-j-preserved : goal.loop-j-preserved
 loop-j-preserved c =
+    let below : (c.loop-j.j < c.args.h.n2) × (c.loop-j.count < 64) = let p = c.requires.small in
+    let t = taken_more c.loop-j.j c.args.h.n2 c.loop-j.count _ c.loop-j-test.true in
+    (t.0, omega (arith, t.1, p.rv-most, p.rh-most)) in
     let l = c.loop-j in
     let a = c.args in
-    let t = (let below-here : (c.loop-j.j < c.args.h.n2) × (c.loop-j.count < 64) = let below-p = c.requires.small in
-    let below-t = taken_more c.loop-j.j c.args.h.n2 c.loop-j.count _ c.loop-j-test.true in
-    (below-t.0, omega (arith, below-t.1, below-p.rv-most, below-p.rh-most)) in below-here) in
+    let t = below in
     let m = taken_more l.j a.h.n2 l.count _ c.loop-j-test.true in
     let e = c.joint-entry.ensures ∙ sym (cell-joint _ a.i l.j t.0) in (
       omega (arith, t.0),

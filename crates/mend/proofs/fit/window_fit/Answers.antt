@@ -10,15 +10,18 @@ use lib.Seq.{length-take-le}
 use Rattle.mend.proofs.fit.window_fit.Goals as goal
 
 pub slice_bounds-few_fit-end : goal.slice_bounds-few_fit-end
-slice_bounds-few_fit-end c = sym (length-take-le _ _ (omega (arith, (let few-here : c.args.h.b1 * c.args.h.b2 ≤ 16 = box-size (small-burst c.requires.accepted_with.framed.small) in few-here), c.gather-words.ensures.size)))
+slice_bounds-few_fit-end c =
+    let few : c.args.h.b1 * c.args.h.b2 ≤ 16 = box-size (small-burst c.requires.accepted_with.framed.small) in
+    sym (length-take-le _ _ (omega (arith, few, c.gather-words.ensures.size)))
 
 pub few_fit-requires : goal.few_fit-requires
 few_fit-requires c =
+    let few : c.args.h.b1 * c.args.h.b2 ≤ 16 = box-size (small-burst c.requires.accepted_with.framed.small) in
     let t = c.requires.accepted_with.framed.small.t-most in
     let z = c.if-h-ne0.true in
     let size = length-take-le (c.args.h.b1 * c.args.h.b2) c.gather-words.result
-    (omega (arith, (let few-here : c.args.h.b1 * c.args.h.b2 ≤ 16 = box-size (small-burst c.requires.accepted_with.framed.small) in few-here), c.gather-words.ensures.size)) in
-    (omega (arith, (let few-here : c.args.h.b1 * c.args.h.b2 ≤ 16 = box-size (small-burst c.requires.accepted_with.framed.small) in few-here), size), omega arith, t)
+    (omega (arith, few, c.gather-words.ensures.size)) in
+    (omega (arith, few, size), omega arith, t)
 
 pub returns-then-h-ne0 : goal.returns-then-h-ne0
 returns-then-h-ne0 c =
@@ -29,7 +32,9 @@ returns-then-h-ne0 c =
     c.few_fit.ensures)
 
 pub slice_bounds-find_combination-end : goal.slice_bounds-find_combination-end
-slice_bounds-find_combination-end c = sym (length-take-le _ _ (omega (arith, (let few-here : c.args.h.b1 * c.args.h.b2 ≤ 16 = box-size (small-burst c.requires.accepted_with.framed.small) in few-here), c.gather-words.ensures.size)))
+slice_bounds-find_combination-end c =
+    let few : c.args.h.b1 * c.args.h.b2 ≤ 16 = box-size (small-burst c.requires.accepted_with.framed.small) in
+    sym (length-take-le _ _ (omega (arith, few, c.gather-words.ensures.size)))
 
 pub find_combination-requires : goal.find_combination-requires
 find_combination-requires c =

@@ -13,7 +13,9 @@ pub loop-l-init : goal.loop-l-init
 loop-l-init c = (omega arith, omega arith, below_none _)
 
 pub digit-requires : goal.digit-requires
-digit-requires c = let m = (let far-here : c.loop-l.l ≤ 4 → c.loop-l.l * c.args.step ≤ 16 = λ l. mul-le-mul {n₂ = 4} {m₂ = 4} l (let far-s : c.args.step ≤ 4 = omega arith in far-s) in far-here) (omega arith) in omega arith
+digit-requires c =
+    let far : c.loop-l.l ≤ 4 → c.loop-l.l * c.args.step ≤ 16 = λ l. mul-le-mul {n₂ = 4} {m₂ = 4} l (let s : c.args.step ≤ 4 = omega arith in s) in
+    let m = far (omega arith) in omega arith
 
 pub returns-then-digit-eq1 : goal.returns-then-digit-eq1
 unfolding any_of
@@ -22,7 +24,9 @@ returns-then-digit-eq1 c =
     sym (any_here _ _ w.l (omega arith) (one-true _ _ (rw w.invariant.1 at c.digit.ensures) c.if-digit-eq1.true))
 
 pub overflow_add-k : goal.overflow_add-k
-overflow_add-k c = let m = (let far-here : c.loop-l.l ≤ 4 → c.loop-l.l * c.args.step ≤ 16 = λ l. mul-le-mul {n₂ = 4} {m₂ = 4} l (let far-s : c.args.step ≤ 4 = omega arith in far-s) in far-here) (omega arith) in omega arith
+overflow_add-k c =
+    let far : c.loop-l.l ≤ 4 → c.loop-l.l * c.args.step ≤ 16 = λ l. mul-le-mul {n₂ = 4} {m₂ = 4} l (let s : c.args.step ≤ 4 = omega arith in s) in
+    let m = far (omega arith) in omega arith
 
 pub overflow_add-l : goal.overflow_add-l
 overflow_add-l c = omega arith

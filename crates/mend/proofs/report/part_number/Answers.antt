@@ -9,11 +9,10 @@ use Rattle.mend.proofs.report.part_number.Goals as goal
 pub loop-k-preserved : goal.loop-k-preserved
 unfolding part_digit
 loop-k-preserved c =
-    (
-  omega arith,
-  ap₂ (λ (y d : ℕ). 2 * y + d) c.loop-k.invariant.1 ((let digit-is-here : let digit-is-ta = c.args in
-    c.digit.result ≡ cond (part_digit digit-is-ta.b2 digit-is-ta.row digit-is-ta.column digit-is-ta.width digit-is-ta.x (c.loop-k.k - 1)) 1 0 = c.digit.ensures in digit-is-here)) ∙ digits_more _ _ _ (omega arith) (omega arith),
-)
+    let digit-is : let a = c.args in c.digit.result ≡ cond (part_digit a.b2 a.row a.column a.width a.x (c.loop-k.k - 1)) 1 0 = c.digit.ensures in (
+      omega arith,
+      ap₂ (λ (y d : ℕ). 2 * y + d) c.loop-k.invariant.1 digit-is ∙ digits_more _ _ _ (omega arith) (omega arith),
+    )
 
 pub overflow_mul-k : goal.overflow_mul-k
 overflow_mul-k c = omega (arith, part-size c.requires)
@@ -26,36 +25,48 @@ overflow_sub-k c = omega arith
 
 pub overflow_mul-y : goal.overflow_mul-y
 overflow_mul-y c =
-    let y = (let low-here : c.loop-k.y < 65536 = let low-a = c.args in
-    let low-b = digits-below _ c.loop-k.k (part_digit low-a.b2 low-a.row low-a.column low-a.width low-a.x) (part-size c.requires) in
-    let low-e = c.loop-k.invariant.1 in
-    omega arith in low-here) in omega arith
+    let low : c.loop-k.y < 65536 = let a = c.args in
+    let b = digits-below _ c.loop-k.k (part_digit a.b2 a.row a.column a.width a.x) (part-size c.requires) in
+    let e = c.loop-k.invariant.1 in
+    omega arith in
+    let y = low in omega arith
 
 pub overflow_add-row : goal.overflow_add-row
-overflow_add-row c = let p = (let at-here : let at-ta = c.args in PartPlace at-ta.b2 at-ta.row at-ta.column at-ta.width (c.loop-k.k - 1) = part-place c.requires (c.loop-k.k - 1) (omega arith) in at-here) in omega arith
+overflow_add-row c =
+    let at : let a = c.args in PartPlace a.b2 a.row a.column a.width (c.loop-k.k - 1) = part-place c.requires (c.loop-k.k - 1) (omega arith) in
+    let p = at in omega arith
 
 pub overflow_mul-row : goal.overflow_mul-row
-overflow_mul-row c = let p = (let at-here : let at-ta = c.args in PartPlace at-ta.b2 at-ta.row at-ta.column at-ta.width (c.loop-k.k - 1) = part-place c.requires (c.loop-k.k - 1) (omega arith) in at-here) in omega arith
+overflow_mul-row c =
+    let at : let a = c.args in PartPlace a.b2 a.row a.column a.width (c.loop-k.k - 1) = part-place c.requires (c.loop-k.k - 1) (omega arith) in
+    let p = at in omega arith
 
 pub overflow_add-column : goal.overflow_add-column
-overflow_add-column c = let p = (let at-here : let at-ta = c.args in PartPlace at-ta.b2 at-ta.row at-ta.column at-ta.width (c.loop-k.k - 1) = part-place c.requires (c.loop-k.k - 1) (omega arith) in at-here) in omega arith
+overflow_add-column c =
+    let at : let a = c.args in PartPlace a.b2 a.row a.column a.width (c.loop-k.k - 1) = part-place c.requires (c.loop-k.k - 1) (omega arith) in
+    let p = at in omega arith
 
 pub overflow_add-row-in-loop-k : goal.overflow_add-row-in-loop-k
-overflow_add-row-in-loop-k c = let p = (let at-here : let at-ta = c.args in PartPlace at-ta.b2 at-ta.row at-ta.column at-ta.width (c.loop-k.k - 1) = part-place c.requires (c.loop-k.k - 1) (omega arith) in at-here) in omega arith
+overflow_add-row-in-loop-k c =
+    let at : let a = c.args in PartPlace a.b2 a.row a.column a.width (c.loop-k.k - 1) = part-place c.requires (c.loop-k.k - 1) (omega arith) in
+    let p = at in omega arith
 
 pub digit-requires : goal.digit-requires
-digit-requires c = let p = (let at-here : let at-ta = c.args in PartPlace at-ta.b2 at-ta.row at-ta.column at-ta.width (c.loop-k.k - 1) = part-place c.requires (c.loop-k.k - 1) (omega arith) in at-here) in omega arith
+digit-requires c =
+    let at : let a = c.args in PartPlace a.b2 a.row a.column a.width (c.loop-k.k - 1) = part-place c.requires (c.loop-k.k - 1) (omega arith) in
+    let p = at in omega arith
 
 pub overflow_add-y : goal.overflow_add-y
 unfolding part_digit
 overflow_add-y c =
+    let low : c.loop-k.y < 65536 = let a = c.args in
+    let b = digits-below _ c.loop-k.k (part_digit a.b2 a.row a.column a.width a.x) (part-size c.requires) in
+    let e = c.loop-k.invariant.1 in
+    omega arith in
+    let digit-is : let a = c.args in c.digit.result ≡ cond (part_digit a.b2 a.row a.column a.width a.x (c.loop-k.k - 1)) 1 0 = c.digit.ensures in
     let a = c.args in
-    let y = (let low-here : c.loop-k.y < 65536 = let low-a = c.args in
-    let low-b = digits-below _ c.loop-k.k (part_digit low-a.b2 low-a.row low-a.column low-a.width low-a.x) (part-size c.requires) in
-    let low-e = c.loop-k.invariant.1 in
-    omega arith in low-here) in
-    let d = digit-most (part_digit a.b2 a.row a.column a.width a.x (c.loop-k.k - 1)) _ ((let digit-is-here : let digit-is-ta = c.args in
-    c.digit.result ≡ cond (part_digit digit-is-ta.b2 digit-is-ta.row digit-is-ta.column digit-is-ta.width digit-is-ta.x (c.loop-k.k - 1)) 1 0 = c.digit.ensures in digit-is-here)) in
+    let y = low in
+    let d = digit-most (part_digit a.b2 a.row a.column a.width a.x (c.loop-k.k - 1)) _ digit-is in
     omega arith
 
 pub loop-k-smaller : goal.loop-k-smaller

@@ -17,29 +17,29 @@ returns-then-cells-eq0 c = lines_none _ _ _ _ _ (sym c.count_digits-cells.ensure
 
 pub overflow_sub-height : goal.overflow_sub-height
 overflow_sub-height c =
-    ((let rows-here : let rows-ta = c.first_line-row.result in let rows-tb = c.past_line-past_row.result in
-    let rows-tn = c.args.b1 in (rows-ta ≤ rows-tb) × (rows-ta ≤ rows-tn) × (rows-tb ≤ rows-tn) = first_past _ _ _ _ c.first_line-row.ensures c.past_line-past_row.ensures in rows-here)).0
+    let rows : let a = c.first_line-row.result in let b = c.past_line-past_row.result in let n = c.args.b1 in (a ≤ b) × (a ≤ n) × (b ≤ n) = first_past _ _ _ _ c.first_line-row.ensures c.past_line-past_row.ensures in
+    rows.0
 
 pub overflow_sub-width : goal.overflow_sub-width
 overflow_sub-width c =
-    ((let columns-here : let columns-ta = c.first_line-column.result in let columns-tb = c.past_line-past_column.result in
-    let columns-tn = c.args.b2 in (columns-ta ≤ columns-tb) × (columns-ta ≤ columns-tn) × (columns-tb ≤ columns-tn) = first_past _ _ _ _ c.first_line-column.ensures c.past_line-past_column.ensures in columns-here)).0
+    let columns : let a = c.first_line-column.result in let b = c.past_line-past_column.result in let n = c.args.b2 in (a ≤ b) × (a ≤ n) × (b ≤ n) = first_past _ _ _ _ c.first_line-column.ensures c.past_line-past_column.ensures in
+    columns.0
 
 pub overflow_add-result : goal.overflow_add-result
 overflow_add-result c =
-    let l = (let rows-here : let rows-ta = c.first_line-row.result in let rows-tb = c.past_line-past_row.result in
-    let rows-tn = c.args.b1 in (rows-ta ≤ rows-tb) × (rows-ta ≤ rows-tn) × (rows-tb ≤ rows-tn) = first_past _ _ _ _ c.first_line-row.ensures c.past_line-past_row.ensures in rows-here) in omega arith
+    let rows : let a = c.first_line-row.result in let b = c.past_line-past_row.result in let n = c.args.b1 in (a ≤ b) × (a ≤ n) × (b ≤ n) = first_past _ _ _ _ c.first_line-row.ensures c.past_line-past_row.ensures in
+    let l = rows in omega arith
 
 pub overflow_add-result-2 : goal.overflow_add-result-2
 overflow_add-result-2 c =
-    let l = (let columns-here : let columns-ta = c.first_line-column.result in let columns-tb = c.past_line-past_column.result in
-    let columns-tn = c.args.b2 in (columns-ta ≤ columns-tb) × (columns-ta ≤ columns-tn) × (columns-tb ≤ columns-tn) = first_past _ _ _ _ c.first_line-column.ensures c.past_line-past_column.ensures in columns-here) in omega arith
+    let columns : let a = c.first_line-column.result in let b = c.past_line-past_column.result in let n = c.args.b2 in (a ≤ b) × (a ≤ n) × (b ≤ n) = first_past _ _ _ _ c.first_line-column.ensures c.past_line-past_column.ensures in
+    let l = columns in omega arith
 
 pub part_number-requires : goal.part_number-requires
 part_number-requires c =
-    let l = (let rows-here : let rows-ta = c.first_line-row.result in let rows-tb = c.past_line-past_row.result in
-    let rows-tn = c.args.b1 in (rows-ta ≤ rows-tb) × (rows-ta ≤ rows-tn) × (rows-tb ≤ rows-tn) = first_past _ _ _ _ c.first_line-row.ensures c.past_line-past_row.ensures in rows-here) in let m = (let columns-here : let columns-ta = c.first_line-column.result in let columns-tb = c.past_line-past_column.result in
-    let columns-tn = c.args.b2 in (columns-ta ≤ columns-tb) × (columns-ta ≤ columns-tn) × (columns-tb ≤ columns-tn) = first_past _ _ _ _ c.first_line-column.ensures c.past_line-past_column.ensures in columns-here) in omega arith
+    let rows : let a = c.first_line-row.result in let b = c.past_line-past_row.result in let n = c.args.b1 in (a ≤ b) × (a ≤ n) × (b ≤ n) = first_past _ _ _ _ c.first_line-row.ensures c.past_line-past_row.ensures in
+    let columns : let a = c.first_line-column.result in let b = c.past_line-past_column.result in let n = c.args.b2 in (a ≤ b) × (a ≤ n) × (b ≤ n) = first_past _ _ _ _ c.first_line-column.ensures c.past_line-past_column.ensures in
+    let l = rows in let m = columns in omega arith
 
 pub returns : goal.returns
 returns c =

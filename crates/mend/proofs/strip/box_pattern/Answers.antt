@@ -16,21 +16,23 @@ overflow_sub-k c = omega arith
 
 pub overflow_mul-y : goal.overflow_mul-y
 overflow_mul-y c =
-    let y = (let low-here : c.loop-k.y < 65536 = let low-a = c.args in
-    let low-b = digits-below _ c.loop-k.k (laid_digit low-a.b2 low-a.a low-a.x) (box-size c.requires.burst_size) in
-    let low-e = c.loop-k.invariant.1 in
-    omega arith in low-here) in omega arith
+    let low : c.loop-k.y < 65536 = let a = c.args in
+    let b = digits-below _ c.loop-k.k (laid_digit a.b2 a.a a.x) (box-size c.requires.burst_size) in
+    let e = c.loop-k.invariant.1 in
+    omega arith in
+    let y = low in omega arith
 
 pub laid_digit-requires : goal.laid_digit-requires
 laid_digit-requires c = omega (arith, box-size c.requires.burst_size)
 
 pub overflow_add-y : goal.overflow_add-y
 overflow_add-y c =
+    let low : c.loop-k.y < 65536 = let a = c.args in
+    let b = digits-below _ c.loop-k.k (laid_digit a.b2 a.a a.x) (box-size c.requires.burst_size) in
+    let e = c.loop-k.invariant.1 in
+    omega arith in
     let a = c.args in
-    let y = (let low-here : c.loop-k.y < 65536 = let low-a = c.args in
-    let low-b = digits-below _ c.loop-k.k (laid_digit low-a.b2 low-a.a low-a.x) (box-size c.requires.burst_size) in
-    let low-e = c.loop-k.invariant.1 in
-    omega arith in low-here) in
+    let y = low in
     let d = digit-most (laid_digit a.b2 a.a a.x (c.loop-k.k - 1)) _ c.laid_digit.ensures in
     omega arith
 
@@ -38,8 +40,7 @@ pub loop-k-smaller : goal.loop-k-smaller
 loop-k-smaller c = omega arith
 
 pub loop-k-preserved : goal.loop-k-preserved
-loop-k-preserved c =
-    (
+loop-k-preserved c = (
   omega arith,
   ap₂ (λ (y d : ℕ). 2 * y + d) c.loop-k.invariant.1 c.laid_digit.ensures ∙ digits_more _ _ _ (omega arith) (omega arith),
 )

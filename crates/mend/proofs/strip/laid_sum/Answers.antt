@@ -11,35 +11,33 @@ loop-r-init c = (omega arith, mod-start _ _, sym (zero-mul _), sum-start _)
 
 pub row_sum-sum-requires : goal.row_sum-sum-requires
 row_sum-sum-requires c =
-    let p = c.requires in record { burst_size = p.burst_size; u_lt_b1 = (((let line-here : (c.loop-r.u < c.args.b1) × (c.loop-r.first ≤ 12) = let line-w = c.loop-r in
-    let line-a = c.args in
-    let line-r : line-w.r ≤ 3 = omega arith in
-    let line-b : line-a.b2 ≤ 4 = omega arith in
-    let line-m = mul-le-mul {n₂ = 3} {m₂ = 4} line-r line-b in
-    (rw line-w.invariant.1 (mod-lt _ (omega arith)), omega arith) in line-here)).0, ((let line-here : (c.loop-r.u < c.args.b1) × (c.loop-r.first ≤ 12) = let line-w = c.loop-r in
-    let line-a = c.args in
-    let line-r : line-w.r ≤ 3 = omega arith in
-    let line-b : line-a.b2 ≤ 4 = omega arith in
-    let line-m = mul-le-mul {n₂ = 3} {m₂ = 4} line-r line-b in
-    (rw line-w.invariant.1 (mod-lt _ (omega arith)), omega arith) in line-here)).1, p.a_bound.0, p.a_bound.1) }
+    let line : (c.loop-r.u < c.args.b1) × (c.loop-r.first ≤ 12) = let w = c.loop-r in
+    let a = c.args in
+    let r : w.r ≤ 3 = omega arith in
+    let b : a.b2 ≤ 4 = omega arith in
+    let m = mul-le-mul {n₂ = 3} {m₂ = 4} r b in
+    (rw w.invariant.1 (mod-lt _ (omega arith)), omega arith) in
+    let p = c.requires in record { burst_size = p.burst_size; u_lt_b1 = (line.0, line.1, p.a_bound.0, p.a_bound.1) }
 
 pub after-u-requires : goal.after-u-requires
 after-u-requires c =
-    ((let line-here : (c.loop-r.u < c.args.b1) × (c.loop-r.first ≤ 12) = let line-w = c.loop-r in
-    let line-a = c.args in
-    let line-r : line-w.r ≤ 3 = omega arith in
-    let line-b : line-a.b2 ≤ 4 = omega arith in
-    let line-m = mul-le-mul {n₂ = 3} {m₂ = 4} line-r line-b in
-    (rw line-w.invariant.1 (mod-lt _ (omega arith)), omega arith) in line-here)).0
+    let line : (c.loop-r.u < c.args.b1) × (c.loop-r.first ≤ 12) = let w = c.loop-r in
+    let a = c.args in
+    let r : w.r ≤ 3 = omega arith in
+    let b : a.b2 ≤ 4 = omega arith in
+    let m = mul-le-mul {n₂ = 3} {m₂ = 4} r b in
+    (rw w.invariant.1 (mod-lt _ (omega arith)), omega arith) in
+    line.0
 
 pub overflow_add-first : goal.overflow_add-first
 overflow_add-first c =
-    let l = (let line-here : (c.loop-r.u < c.args.b1) × (c.loop-r.first ≤ 12) = let line-w = c.loop-r in
-    let line-a = c.args in
-    let line-r : line-w.r ≤ 3 = omega arith in
-    let line-b : line-a.b2 ≤ 4 = omega arith in
-    let line-m = mul-le-mul {n₂ = 3} {m₂ = 4} line-r line-b in
-    (rw line-w.invariant.1 (mod-lt _ (omega arith)), omega arith) in line-here) in omega arith
+    let line : (c.loop-r.u < c.args.b1) × (c.loop-r.first ≤ 12) = let w = c.loop-r in
+    let a = c.args in
+    let r : w.r ≤ 3 = omega arith in
+    let b : a.b2 ≤ 4 = omega arith in
+    let m = mul-le-mul {n₂ = 3} {m₂ = 4} r b in
+    (rw w.invariant.1 (mod-lt _ (omega arith)), omega arith) in
+    let l = line in omega arith
 
 pub overflow_add-r : goal.overflow_add-r
 overflow_add-r c = omega arith

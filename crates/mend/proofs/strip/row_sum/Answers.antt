@@ -36,37 +36,46 @@ pub loop-d-init : goal.loop-d-init
 loop-d-init c = (omega arith, mod-start _ _, omega (arith, zero_more c.args.a c.args.b1), sum-start _)
 
 pub overflow_add-first : goal.overflow_add-first
-overflow_add-first c = let l = (let remainder-here : c.loop-d.t < c.args.b2 = rw c.loop-d.invariant.1 (mod-lt _ (omega arith)) in remainder-here) in omega arith
+overflow_add-first c =
+    let remainder : c.loop-d.t < c.args.b2 = rw c.loop-d.invariant.1 (mod-lt _ (omega arith)) in
+    let l = remainder in omega arith
 
 pub offset_bounds-columns-at : goal.offset_bounds-columns-at
 offset_bounds-columns-at c =
-    let l = (let place-here : (c.loop-d.at < length c.args.columns.now) × (c.loop-d.at ≤ 2812) = let place-a = c.args in
-    let place-w = c.loop-d in
-    let place-l : (place-a.a + place-w.d) * place-a.b1 + place-a.u < (place-a.a + place-a.b2) * place-a.b1 = digits_lt (omega arith) (omega arith) in
-    let place-m = columns-most place-a.a place-a.b2 place-a.b1 (omega arith) (omega arith) (omega arith) in
-    omega arith in place-here) in omega arith
+    let place : (c.loop-d.at < length c.args.columns.now) × (c.loop-d.at ≤ 2812) = let a = c.args in
+    let w = c.loop-d in
+    let l : (a.a + w.d) * a.b1 + a.u < (a.a + a.b2) * a.b1 = digits_lt (omega arith) (omega arith) in
+    let m = columns-most a.a a.b2 a.b1 (omega arith) (omega arith) (omega arith) in
+    omega arith in
+    let l = place in omega arith
 
 pub bounds-columns-at : goal.bounds-columns-at
 bounds-columns-at c =
-    ((let place-here : (c.loop-d.at < length c.args.columns.now) × (c.loop-d.at ≤ 2812) = let place-a = c.args in
-    let place-w = c.loop-d in
-    let place-l : (place-a.a + place-w.d) * place-a.b1 + place-a.u < (place-a.a + place-a.b2) * place-a.b1 = digits_lt (omega arith) (omega arith) in
-    let place-m = columns-most place-a.a place-a.b2 place-a.b1 (omega arith) (omega arith) (omega arith) in
-    omega arith in place-here)).0
+    let place : (c.loop-d.at < length c.args.columns.now) × (c.loop-d.at ≤ 2812) = let a = c.args in
+    let w = c.loop-d in
+    let l : (a.a + w.d) * a.b1 + a.u < (a.a + a.b2) * a.b1 = digits_lt (omega arith) (omega arith) in
+    let m = columns-most a.a a.b2 a.b1 (omega arith) (omega arith) (omega arith) in
+    omega arith in
+    place.0
 
 pub picked-sum-requires : goal.picked-sum-requires
-picked-sum-requires c = let l = (let remainder-here : c.loop-d.t < c.args.b2 = rw c.loop-d.invariant.1 (mod-lt _ (omega arith)) in remainder-here) in omega arith
+picked-sum-requires c =
+    let remainder : c.loop-d.t < c.args.b2 = rw c.loop-d.invariant.1 (mod-lt _ (omega arith)) in
+    let l = remainder in omega arith
 
 pub after-t-requires : goal.after-t-requires
-after-t-requires c = (let remainder-here : c.loop-d.t < c.args.b2 = rw c.loop-d.invariant.1 (mod-lt _ (omega arith)) in remainder-here)
+after-t-requires c =
+    let remainder : c.loop-d.t < c.args.b2 = rw c.loop-d.invariant.1 (mod-lt _ (omega arith)) in
+    remainder
 
 pub overflow_add-at-in-loop-d : goal.overflow_add-at-in-loop-d
 overflow_add-at-in-loop-d c =
-    let l = (let place-here : (c.loop-d.at < length c.args.columns.now) × (c.loop-d.at ≤ 2812) = let place-a = c.args in
-    let place-w = c.loop-d in
-    let place-l : (place-a.a + place-w.d) * place-a.b1 + place-a.u < (place-a.a + place-a.b2) * place-a.b1 = digits_lt (omega arith) (omega arith) in
-    let place-m = columns-most place-a.a place-a.b2 place-a.b1 (omega arith) (omega arith) (omega arith) in
-    omega arith in place-here) in omega arith
+    let place : (c.loop-d.at < length c.args.columns.now) × (c.loop-d.at ≤ 2812) = let a = c.args in
+    let w = c.loop-d in
+    let l : (a.a + w.d) * a.b1 + a.u < (a.a + a.b2) * a.b1 = digits_lt (omega arith) (omega arith) in
+    let m = columns-most a.a a.b2 a.b1 (omega arith) (omega arith) (omega arith) in
+    omega arith in
+    let l = place in omega arith
 
 pub overflow_add-d : goal.overflow_add-d
 overflow_add-d c = omega arith

@@ -11,8 +11,12 @@ unfolding fields_verdict
 returns-then-sizes-ne0 c = rw (← c.sizes_verdict-sizes.ensures) (sym (else-first _ _ c.if-sizes-ne0.true))
 
 pub offsets_verdict-requires : goal.offsets_verdict-requires
-offsets_verdict-requires c = sizes-small _ ((let passed-here : (sizes_verdict c.args.h).number ≡ 0 = ap (λ (v : Verdict). v.number) (sym c.sizes_verdict-sizes.ensures) ∙ c.if-sizes-ne0.false in passed-here))
+offsets_verdict-requires c =
+    let passed : (sizes_verdict c.args.h).number ≡ 0 = ap (λ (v : Verdict). v.number) (sym c.sizes_verdict-sizes.ensures) ∙ c.if-sizes-ne0.false in
+    sizes-small _ passed
 
 pub returns : goal.returns
 unfolding fields_verdict
-returns c = c.offsets_verdict.ensures ∙ sym (else-second _ _ ((let passed-here : (sizes_verdict c.args.h).number ≡ 0 = ap (λ (v : Verdict). v.number) (sym c.sizes_verdict-sizes.ensures) ∙ c.if-sizes-ne0.false in passed-here)))
+returns c =
+    let passed : (sizes_verdict c.args.h).number ≡ 0 = ap (λ (v : Verdict). v.number) (sym c.sizes_verdict-sizes.ensures) ∙ c.if-sizes-ne0.false in
+    c.offsets_verdict.ensures ∙ sym (else-second _ _ passed)

@@ -15,27 +15,40 @@ unfolding form_verdict
 returns-then-header-ne0 c = rw (← c.header_verdict-header.ensures) (sym (else-first _ _ c.if-header-ne0.true))
 
 pub header_of-h-requires : goal.header_of-h-requires
-header_of-h-requires c = let f = (let ready-here : Framed c.args.plan.now (header_of c.args.plan.now) = framed c.args.plan.now ((let accepts-here : (header_verdict c.args.plan.now).number ≡ 0 = ap (λ (v : Verdict). v.number) (sym c.header_verdict-header.ensures) ∙ c.if-header-ne0.false in accepts-here)) in ready-here) in omega arith
+header_of-h-requires c =
+    let accepts : (header_verdict c.args.plan.now).number ≡ 0 = ap (λ (v : Verdict). v.number) (sym c.header_verdict-header.ensures) ∙ c.if-header-ne0.false in
+    let ready : Framed c.args.plan.now (header_of c.args.plan.now) = framed c.args.plan.now accepts in
+    let f = ready in omega arith
 
 pub entries_verdict-entries-requires : goal.entries_verdict-entries-requires
-entries_verdict-entries-requires c = rw c.header_of-h.ensures ((let ready-here : Framed c.args.plan.now (header_of c.args.plan.now) = framed c.args.plan.now ((let accepts-here : (header_verdict c.args.plan.now).number ≡ 0 = ap (λ (v : Verdict). v.number) (sym c.header_verdict-header.ensures) ∙ c.if-header-ne0.false in accepts-here)) in ready-here))
+entries_verdict-entries-requires c =
+    let accepts : (header_verdict c.args.plan.now).number ≡ 0 = ap (λ (v : Verdict). v.number) (sym c.header_verdict-header.ensures) ∙ c.if-header-ne0.false in
+    let ready : Framed c.args.plan.now (header_of c.args.plan.now) = framed c.args.plan.now accepts in
+    rw c.header_of-h.ensures ready
 
 pub returns-then-entries-ne0 : goal.returns-then-entries-ne0
 unfolding code_of form_verdict
 returns-then-entries-ne0 c =
+    let accepts : (header_verdict c.args.plan.now).number ≡ 0 = ap (λ (v : Verdict). v.number) (sym c.header_verdict-header.ensures) ∙ c.if-header-ne0.false in
+    let entries : c.entries_verdict-entries.result ≡ entries_verdict (code_of c.args.plan.now) = c.entries_verdict-entries.ensures ∙ rw c.header_of-h.ensures in
     let s = c.args.plan.now in
-    let h = else-second (header_verdict s) (entries_verdict (code_of s) or_else list_verdict (code_of s)) ((let accepts-here : (header_verdict c.args.plan.now).number ≡ 0 = ap (λ (v : Verdict). v.number) (sym c.header_verdict-header.ensures) ∙ c.if-header-ne0.false in accepts-here)) in
-    rw (h, ← (let entries-here : c.entries_verdict-entries.result ≡ entries_verdict (code_of c.args.plan.now) = c.entries_verdict-entries.ensures ∙ rw c.header_of-h.ensures in entries-here)) (sym (else-first _ _ c.if-entries-ne0.true))
+    let h = else-second (header_verdict s) (entries_verdict (code_of s) or_else list_verdict (code_of s)) accepts in
+    rw (h, ← entries) (sym (else-first _ _ c.if-entries-ne0.true))
 
 pub list_verdict-requires : goal.list_verdict-requires
-list_verdict-requires c = rw c.header_of-h.ensures ((let ready-here : Framed c.args.plan.now (header_of c.args.plan.now) = framed c.args.plan.now ((let accepts-here : (header_verdict c.args.plan.now).number ≡ 0 = ap (λ (v : Verdict). v.number) (sym c.header_verdict-header.ensures) ∙ c.if-header-ne0.false in accepts-here)) in ready-here))
+list_verdict-requires c =
+    let accepts : (header_verdict c.args.plan.now).number ≡ 0 = ap (λ (v : Verdict). v.number) (sym c.header_verdict-header.ensures) ∙ c.if-header-ne0.false in
+    let ready : Framed c.args.plan.now (header_of c.args.plan.now) = framed c.args.plan.now accepts in
+    rw c.header_of-h.ensures ready
 
 pub returns : goal.returns
 unfolding code_of form_verdict
 returns c =
+    let accepts : (header_verdict c.args.plan.now).number ≡ 0 = ap (λ (v : Verdict). v.number) (sym c.header_verdict-header.ensures) ∙ c.if-header-ne0.false in
+    let entries : c.entries_verdict-entries.result ≡ entries_verdict (code_of c.args.plan.now) = c.entries_verdict-entries.ensures ∙ rw c.header_of-h.ensures in
     let s = c.args.plan.now in
-    let h = else-second (header_verdict s) (entries_verdict (code_of s) or_else list_verdict (code_of s)) ((let accepts-here : (header_verdict c.args.plan.now).number ≡ 0 = ap (λ (v : Verdict). v.number) (sym c.header_verdict-header.ensures) ∙ c.if-header-ne0.false in accepts-here)) in
+    let h = else-second (header_verdict s) (entries_verdict (code_of s) or_else list_verdict (code_of s)) accepts in
     let e : (entries_verdict (code_of s)).number ≡ 0 =
-    ap (λ (v : Verdict). v.number) (sym ((let entries-here : c.entries_verdict-entries.result ≡ entries_verdict (code_of c.args.plan.now) = c.entries_verdict-entries.ensures ∙ rw c.header_of-h.ensures in entries-here))) ∙ c.if-entries-ne0.false in
+    ap (λ (v : Verdict). v.number) (sym entries) ∙ c.if-entries-ne0.false in
     let t : c.list_verdict.result ≡ list_verdict (code_of s) = c.list_verdict.ensures ∙ rw c.header_of-h.ensures in
     t ∙ sym (h ∙ else-second (entries_verdict (code_of s)) (list_verdict (code_of s)) e)

@@ -3,7 +3,7 @@ use mathlib.Core.List.{List}
 use Prim.Native.Nat.{ℕ, ◌+◌, ◌-◌, ◌<◌}
 use native.Mathlib.Omega.{arith}
 use native.Mathlib.Decide.{ℕ_discrete}
-use lib.ListN.{length, get_or, set, length-set}
+use lib.ListN.{get_or, set, length-set}
 use lib.Seq.{get_or-set_same, get_or-set_other}
 use Rattle.plan.specs.declared.header.Header.{Header}
 use Rattle.plan.specs.declared.table.Table.{Table}
@@ -20,6 +20,7 @@ one_more s h t k words x l u e = record { size = length-set words k x ∙ u.size
   where
     here : get_or (set words k x) k 0 ≡ x
     here = get_or-set_same words k x 0 (let n = u.size in omega arith)
+
     at : (j : ℕ) → j < k + 1 → Dec (j ≡ k) → Weight (entry_of s h t j) (get_or (set words k x) j 0)
     at j lj (yes q) = rw (q, here) e
     at j lj (no q) = rw (get_or-set_other words k j x 0 q) (u.entry j (omega arith))

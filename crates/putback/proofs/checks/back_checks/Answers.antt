@@ -14,11 +14,15 @@ unfolding back_checks
 returns-then-form-ne0 c = stops _ _ c.form_checks-form.ensures.verdict c.if-form-ne0.true
 
 pub header_of-requires : goal.header_of-requires
-header_of-requires c = let F = (let ready-here : let ready-ta = c.args in InForm ready-ta.plan.now ready-ta.sheet.now = form-zero _ _ (checked-passes c.form_checks-form.ensures c.if-form-ne0.false) in ready-here) in omega (arith, F.accepted.framed.long)
+header_of-requires c =
+    let ready : let a = c.args in InForm a.plan.now a.sheet.now = form-zero _ _ (checked-passes c.form_checks-form.ensures c.if-form-ne0.false) in
+    let F = ready in omega (arith, F.accepted.framed.long)
 
 pub no_burst-requires : goal.no_burst-requires
 unfolding code_of
-no_burst-requires c = rw c.header_of.ensures (accepted-with _ _ refl ((let ready-here : let ready-ta = c.args in InForm ready-ta.plan.now ready-ta.sheet.now = form-zero _ _ (checked-passes c.form_checks-form.ensures c.if-form-ne0.false) in ready-here)).accepted)
+no_burst-requires c =
+    let ready : let a = c.args in InForm a.plan.now a.sheet.now = form-zero _ _ (checked-passes c.form_checks-form.ensures c.if-form-ne0.false) in
+    rw c.header_of.ensures (accepted-with _ _ refl ready.accepted)
 
 pub returns : goal.returns
 unfolding back_checks burst_verdict code_of

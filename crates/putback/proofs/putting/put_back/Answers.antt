@@ -16,16 +16,22 @@ returns-then-verdict-ne0 c =
     ap (λ (v : Verdict). left_back v s.sheet.now) e ∙ sym (back-refused _ _ _ (λ z. omega (arith, c.if-verdict-ne0.true)))
 
 pub header_of-requires : goal.header_of-requires
-header_of-requires c = let m = (let ready-here : let ready-ta = c.args in MayPut ready-ta.plan.now ready-ta.sheet.now ready-ta.answer = back-zero _ _ _ ((let passes-here : let passes-ta = c.args in (back_checks passes-ta.plan.now passes-ta.sheet.now passes-ta.answer).number ≡ 0 = ap (λ (v : Verdict). v.number) (sym c.back_checks-verdict.ensures) ∙ c.if-verdict-ne0.false in passes-here)) in ready-here) in omega (arith, m.right.accepted.framed.long)
+header_of-requires c =
+    let passes : let a = c.args in (back_checks a.plan.now a.sheet.now a.answer).number ≡ 0 = ap (λ (v : Verdict). v.number) (sym c.back_checks-verdict.ensures) ∙ c.if-verdict-ne0.false in
+    let ready : let a = c.args in MayPut a.plan.now a.sheet.now a.answer = back-zero _ _ _ passes in
+    let m = ready in omega (arith, m.right.accepted.framed.long)
 
 pub turn_told-requires : goal.turn_told-requires
 unfolding code_of
 turn_told-requires c =
-    let m = (let ready-here : let ready-ta = c.args in MayPut ready-ta.plan.now ready-ta.sheet.now ready-ta.answer = back-zero _ _ _ ((let passes-here : let passes-ta = c.args in (back_checks passes-ta.plan.now passes-ta.sheet.now passes-ta.answer).number ≡ 0 = ap (λ (v : Verdict). v.number) (sym c.back_checks-verdict.ensures) ∙ c.if-verdict-ne0.false in passes-here)) in ready-here) in
+    let passes : let a = c.args in (back_checks a.plan.now a.sheet.now a.answer).number ≡ 0 = ap (λ (v : Verdict). v.number) (sym c.back_checks-verdict.ensures) ∙ c.if-verdict-ne0.false in
+    let ready : let a = c.args in MayPut a.plan.now a.sheet.now a.answer = back-zero _ _ _ passes in
+    let m = ready in
     rw c.header_of.ensures (record { accepted_with = accepted-with _ _ refl m.right.accepted; right_form = m.right.form; answer_value = m.burst })
 
 pub returns : goal.returns
 unfolding code_of
 returns c =
-    ap₂ left_back c.back_checks-verdict.ensures ((let whole-here : let whole-ta = c.args in
-    c.turn_told.new.sheet ≡ back_bytes (code_of whole-ta.plan.now) whole-ta.sheet.now whole-ta.answer = rw c.header_of.ensures at c.turn_told.ensures in whole-here)) ∙ sym (back_done _ _ _ ((let passes-here : let passes-ta = c.args in (back_checks passes-ta.plan.now passes-ta.sheet.now passes-ta.answer).number ≡ 0 = ap (λ (v : Verdict). v.number) (sym c.back_checks-verdict.ensures) ∙ c.if-verdict-ne0.false in passes-here)))
+    let passes : let a = c.args in (back_checks a.plan.now a.sheet.now a.answer).number ≡ 0 = ap (λ (v : Verdict). v.number) (sym c.back_checks-verdict.ensures) ∙ c.if-verdict-ne0.false in
+    let whole : let a = c.args in c.turn_told.new.sheet ≡ back_bytes (code_of a.plan.now) a.sheet.now a.answer = rw c.header_of.ensures at c.turn_told.ensures in
+    ap₂ left_back c.back_checks-verdict.ensures whole ∙ sym (back_done _ _ _ passes)

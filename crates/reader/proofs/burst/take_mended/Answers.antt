@@ -58,12 +58,11 @@ loop-k-smaller c = omega arith
 
 pub loop-k-preserved : goal.loop-k-preserved
 unfolding bit
-loop-k-preserved c =
-    (
-      omega arith,
-      data-next _ c.requires.accepted_with.formed _ c.requires.right_form _ _ _ c.requires.fact _ _ _ (omega arith)
-          c.loop-k.invariant.1 c.turn_bit_if.ensures,
-    )
+loop-k-preserved c = (
+  omega arith,
+  data-next _ c.requires.accepted_with.formed _ c.requires.right_form _ _ _ c.requires.fact _ _ _ (omega arith)
+      c.loop-k.invariant.1 c.turn_bit_if.ensures,
+)
 
 pub shape_of-bits : goal.shape_of-bits
 shape_of-bits c = ap length c.loop-k.invariant.1 ∙ (bytes-form 1 _ _).size ∙ row-sheet _ ∙ sym c.requires.bits_len

@@ -17,11 +17,16 @@ returns-then-checked-ne0 c =
     rw (c.refused_as.ensures, e) (lengths-refuse a.lay a.plan.now a.sheet.now a.bits.now (λ z. omega (arith, c.if-checked-ne0.true)))
 
 pub header_of-requires : goal.header_of-requires
-header_of-requires c = let f = ((let ready-here : let ready-ta = c.args in Lengths ready-ta.lay ready-ta.plan.now ready-ta.sheet.now ready-ta.bits.now = length-zero _ _ _ _ ((let passes-here : let passes-ta = c.args in (length_checks passes-ta.lay passes-ta.plan.now passes-ta.sheet.now passes-ta.bits.now).number ≡ 0 = checked-passes c.length_checks-checked.ensures c.if-checked-ne0.false in passes-here)) in ready-here)).accepted.framed in omega arith
+header_of-requires c =
+    let passes : let a = c.args in (length_checks a.lay a.plan.now a.sheet.now a.bits.now).number ≡ 0 = checked-passes c.length_checks-checked.ensures c.if-checked-ne0.false in
+    let ready : let a = c.args in Lengths a.lay a.plan.now a.sheet.now a.bits.now = length-zero _ _ _ _ passes in
+    let f = ready.accepted.framed in omega arith
 
 pub read_lent-requires : goal.read_lent-requires
 unfolding code_of
 read_lent-requires c =
-    let R = (let ready-here : let ready-ta = c.args in Lengths ready-ta.lay ready-ta.plan.now ready-ta.sheet.now ready-ta.bits.now = length-zero _ _ _ _ ((let passes-here : let passes-ta = c.args in (length_checks passes-ta.lay passes-ta.plan.now passes-ta.sheet.now passes-ta.bits.now).number ≡ 0 = checked-passes c.length_checks-checked.ensures c.if-checked-ne0.false in passes-here)) in ready-here) in
+    let passes : let a = c.args in (length_checks a.lay a.plan.now a.sheet.now a.bits.now).number ≡ 0 = checked-passes c.length_checks-checked.ensures c.if-checked-ne0.false in
+    let ready : let a = c.args in Lengths a.lay a.plan.now a.sheet.now a.bits.now = length-zero _ _ _ _ passes in
+    let R = ready in
     let u = c.length_checks-checked.ensures.unpacked c.if-checked-ne0.false in
     rw c.header_of.ensures (record { accepted_with = accepted-with _ _ refl R.accepted; unpacked = u; sheet_len = R.sheet-size; bits_len = R.bits-size })

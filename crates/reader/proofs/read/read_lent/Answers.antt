@@ -17,9 +17,20 @@ returns-then-unused-ne0 c =
 pub mend_sheet-requires : goal.mend_sheet-requires
 mend_sheet-requires c =
     let p = c.requires in
-    record { accepted_with = p.accepted_with; unpacked = p.unpacked; form_in = unused-right _ _ _ _ p.sheet_len ((let passes-here : let passes-ta = c.args in (unused_verdict passes-ta.lay passes-ta.h.n1 passes-ta.h.n2 passes-ta.sheet.now).number ≡ 0 = ap (λ (v : Verdict). v.number) (sym c.sheet_unused-unused.ensures) ∙ c.if-unused-ne0.false in passes-here)); bits_len = p.bits_len }
+    let a = c.args in
+    let passes : (unused_verdict a.lay a.h.n1 a.h.n2 a.sheet.now).number ≡ 0 =
+    ap (λ (v : Verdict). v.number) (sym c.sheet_unused-unused.ensures) ∙ c.if-unused-ne0.false in
+    record {
+      accepted_with = p.accepted_with;
+      unpacked = p.unpacked;
+      form_in = unused-right _ _ _ _ p.sheet_len passes;
+      bits_len = p.bits_len;
+    }
 
 pub returns : goal.returns
 returns c =
     let p = c.requires in
-    c.mend_sheet.ensures ∙ unused-mends _ _ _ _ c.args.h p.accepted_with p.sheet_len p.bits_len ((let passes-here : let passes-ta = c.args in (unused_verdict passes-ta.lay passes-ta.h.n1 passes-ta.h.n2 passes-ta.sheet.now).number ≡ 0 = ap (λ (v : Verdict). v.number) (sym c.sheet_unused-unused.ensures) ∙ c.if-unused-ne0.false in passes-here))
+    let a = c.args in
+    let passes : (unused_verdict a.lay a.h.n1 a.h.n2 a.sheet.now).number ≡ 0 =
+    ap (λ (v : Verdict). v.number) (sym c.sheet_unused-unused.ensures) ∙ c.if-unused-ne0.false in
+    c.mend_sheet.ensures ∙ unused-mends _ _ _ _ a.h p.accepted_with p.sheet_len p.bits_len passes

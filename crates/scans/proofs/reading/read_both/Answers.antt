@@ -11,15 +11,13 @@ use Rattle.scans.proofs.reading.read_both.Goals as goal
 
 pub returns-then-not-mended_agree : goal.returns-then-not-mended_agree
 returns-then-not-mended_agree c =
-    rw c.refuse.ensures (decide-differ _ _ _ _ _ _ _ ((let same-here : let same-ta = c.args in
-    let same-tk = code_with same-ta.plan.now same-ta.h in
-    agree (bits_read ByRow same-tk same-ta.first.now) (bits_read ByRow same-tk same-ta.second.now) ≡ c.mended_agree.result = let same-p = c.requires in
-    agree-found _ same-p.accepted_with.formed same-p.accepted_with.conditions _ same-p.right_form _ _ _ same-p.fact _ same-p.right_form_2 _ _ _ same-p.fact_2 _ c.mended_agree.ensures in same-here) ∙ c.if-not-mended_agree.true))
+    let same : let a = c.args in let k = code_with a.plan.now a.h in agree (bits_read ByRow k a.first.now) (bits_read ByRow k a.second.now) ≡ c.mended_agree.result = let p = c.requires in
+    agree-found _ p.accepted_with.formed p.accepted_with.conditions _ p.right_form _ _ _ p.fact _ p.right_form_2 _ _ _ p.fact_2 _ c.mended_agree.ensures in
+    rw c.refuse.ensures (decide-differ _ _ _ _ _ _ _ (same ∙ c.if-not-mended_agree.true))
 
 pub returns : goal.returns
 returns c =
+    let same : let a = c.args in let k = code_with a.plan.now a.h in agree (bits_read ByRow k a.first.now) (bits_read ByRow k a.second.now) ≡ c.mended_agree.result = let p = c.requires in
+    agree-found _ p.accepted_with.formed p.accepted_with.conditions _ p.right_form _ _ _ p.fact _ p.right_form_2 _ _ _ p.fact_2 _ c.mended_agree.ensures in
     ap₂ two_read c.accept.ensures c.take_mended.ensures
-    ∙ decide-agree _ _ _ _ _ _ _ ((let same-here : let same-ta = c.args in
-    let same-tk = code_with same-ta.plan.now same-ta.h in
-    agree (bits_read ByRow same-tk same-ta.first.now) (bits_read ByRow same-tk same-ta.second.now) ≡ c.mended_agree.result = let same-p = c.requires in
-    agree-found _ same-p.accepted_with.formed same-p.accepted_with.conditions _ same-p.right_form _ _ _ same-p.fact _ same-p.right_form_2 _ _ _ same-p.fact_2 _ c.mended_agree.ensures in same-here) ∙ c.if-not-mended_agree.false)
+    ∙ decide-agree _ _ _ _ _ _ _ (same ∙ c.if-not-mended_agree.false)

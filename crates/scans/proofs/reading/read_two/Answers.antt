@@ -20,21 +20,32 @@ returns-then-checked-ne0 c =
     rw e (two-refuses a.plan.now a.first.now a.second.now a.bits.now (λ z. c.if-checked-ne0.true (ap (λ (v : Verdict). v.number) e ∙ z)))
 
 pub header_of-requires : goal.header_of-requires
-header_of-requires c = let f = ((let ready-here : let ready-ta = c.args in MayReadTwo ready-ta.plan.now ready-ta.first.now ready-ta.second.now ready-ta.bits.now = two-zero _ _ _ _ ((let passes-here : let passes-ta = c.args in (read_two_checks passes-ta.plan.now passes-ta.first.now passes-ta.second.now passes-ta.bits.now).number ≡ 0 = checked-passes c.read_two_checks-checked.ensures c.if-checked-ne0.false in passes-here)) in ready-here)).both.accepted.framed in omega arith
+header_of-requires c =
+    let passes = checked-passes c.read_two_checks-checked.ensures c.if-checked-ne0.false in
+    let f = (two-zero _ _ _ _ passes).both.accepted.framed in
+    omega arith
 
 pub read_scans-requires : goal.read_scans-requires
 unfolding code_of
 read_scans-requires c =
-    let R = (let ready-here : let ready-ta = c.args in MayReadTwo ready-ta.plan.now ready-ta.first.now ready-ta.second.now ready-ta.bits.now = two-zero _ _ _ _ ((let passes-here : let passes-ta = c.args in (read_two_checks passes-ta.plan.now passes-ta.first.now passes-ta.second.now passes-ta.bits.now).number ≡ 0 = checked-passes c.read_two_checks-checked.ensures c.if-checked-ne0.false in passes-here)) in ready-here) in
+    let passes = checked-passes c.read_two_checks-checked.ensures c.if-checked-ne0.false in
+    let R = two-zero _ _ _ _ passes in
     let u = c.read_two_checks-checked.ensures.unpacked c.if-checked-ne0.false in
     rw c.header_of.ensures
-    (record { accepted_with = accepted-with _ _ refl R.both.accepted; unpacked = u; right_form = R.both.first-form; right_form_2 = R.both.second-form; bits_len = R.bits-size })
+    (record {
+      accepted_with = accepted-with _ _ refl R.both.accepted;
+      unpacked = u;
+      right_form = R.both.first-form;
+      right_form_2 = R.both.second-form;
+      bits_len = R.bits-size;
+    })
 
 pub returns : goal.returns
 unfolding code_of
 returns c =
     let a = c.args in
+    let passes = checked-passes c.read_two_checks-checked.ensures c.if-checked-ne0.false in
     c.read_scans.ensures
     ∙ ap (λ (h : Header). let k = code_with a.plan.now h in
     decide (mend_outcome ByRow k a.first.now a.bits.now) (mend_outcome ByRow k a.second.now a.bits.now) a.bits.now) c.header_of.ensures
-    ∙ two-decides a.plan.now a.first.now a.second.now a.bits.now ((let passes-here : let passes-ta = c.args in (read_two_checks passes-ta.plan.now passes-ta.first.now passes-ta.second.now passes-ta.bits.now).number ≡ 0 = checked-passes c.read_two_checks-checked.ensures c.if-checked-ne0.false in passes-here))
+    ∙ two-decides a.plan.now a.first.now a.second.now a.bits.now passes

@@ -23,5 +23,8 @@ returns c =
     let a = c.args in
     let r = c.add.ensures in
     let g = one-added (word_at a.words.now a.k) a.count a.sums.now a.marks.now c.requires.sums_len.0 c.requires.sums_len.1 (omega arith) r.sums_after r.marks_after in
-    let w = c.add_pairs.ensures in record { lower_bound = (omega arith, omega arith); grown = last-two a.t (word_at a.words.now) a.first a.k g
-          c.if-t-ne2.false w.grown }
+    let w = c.add_pairs.ensures in record {
+      lower_bound = (omega arith, omega arith);
+      grown = last-two a.t (word_at a.words.now) a.first a.k g
+          c.if-t-ne2.false w.grown;
+    }

@@ -13,10 +13,18 @@ pub returns-then-form-ne0 : goal.returns-then-form-ne0
 returns-then-form-ne0 c = stops _ _ c.stack_form-form.ensures c.if-form-ne0.true
 
 pub count_of-requires : goal.count_of-requires
-count_of-requires c = ((let ready-here : let ready-ta = c.args in Whole (sheet_size (code_with ready-ta.plan.now ready-ta.h)) ready-ta.stack.now = let ready-a = c.args in whole _ _ (if-zero (stack_broken (sheet_size (code_with ready-a.plan.now ready-a.h)) ready-a.stack.now) 19 0 0 ((let passes-here : let passes-ta = c.args in (stack_form (code_with passes-ta.plan.now passes-ta.h) passes-ta.stack.now).number ≡ 0 = ap (λ (v : Verdict). v.number) (sym c.stack_form-form.ensures) ∙ c.if-form-ne0.false in passes-here))) in ready-here)).counted
+count_of-requires c =
+    let passes : let a = c.args in (stack_form (code_with a.plan.now a.h) a.stack.now).number ≡ 0 = ap (λ (v : Verdict). v.number) (sym c.stack_form-form.ensures) ∙ c.if-form-ne0.false in
+    let ready : let a = c.args in Whole (sheet_size (code_with a.plan.now a.h)) a.stack.now = let a = c.args in whole _ _ (if-zero (stack_broken (sheet_size (code_with a.plan.now a.h)) a.stack.now) 19 0 0 passes) in
+    ready.counted
 
 pub room_checks-requires : goal.room_checks-requires
-room_checks-requires c = record { accepted_with = c.requires; count_bound = rw c.count_of.ensures.0 ((let ready-here : let ready-ta = c.args in Whole (sheet_size (code_with ready-ta.plan.now ready-ta.h)) ready-ta.stack.now = let ready-a = c.args in whole _ _ (if-zero (stack_broken (sheet_size (code_with ready-a.plan.now ready-a.h)) ready-a.stack.now) 19 0 0 ((let passes-here : let passes-ta = c.args in (stack_form (code_with passes-ta.plan.now passes-ta.h) passes-ta.stack.now).number ≡ 0 = ap (λ (v : Verdict). v.number) (sym c.stack_form-form.ensures) ∙ c.if-form-ne0.false in passes-here))) in ready-here)).most }
+room_checks-requires c =
+    let passes : let a = c.args in (stack_form (code_with a.plan.now a.h) a.stack.now).number ≡ 0 = ap (λ (v : Verdict). v.number) (sym c.stack_form-form.ensures) ∙ c.if-form-ne0.false in
+    let ready : let a = c.args in Whole (sheet_size (code_with a.plan.now a.h)) a.stack.now = let a = c.args in whole _ _ (if-zero (stack_broken (sheet_size (code_with a.plan.now a.h)) a.stack.now) 19 0 0 passes) in
+    record { accepted_with = c.requires; count_bound = rw c.count_of.ensures.0 ready.most }
 
 pub returns : goal.returns
-returns c = goes_on _ _ ((let passes-here : let passes-ta = c.args in (stack_form (code_with passes-ta.plan.now passes-ta.h) passes-ta.stack.now).number ≡ 0 = ap (λ (v : Verdict). v.number) (sym c.stack_form-form.ensures) ∙ c.if-form-ne0.false in passes-here)) (c.room_checks.ensures ∙ rw c.count_of.ensures.0)
+returns c =
+    let passes : let a = c.args in (stack_form (code_with a.plan.now a.h) a.stack.now).number ≡ 0 = ap (λ (v : Verdict). v.number) (sym c.stack_form-form.ensures) ∙ c.if-form-ne0.false in
+    goes_on _ _ passes (c.room_checks.ensures ∙ rw c.count_of.ensures.0)

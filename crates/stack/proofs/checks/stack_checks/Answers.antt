@@ -13,10 +13,14 @@ unfolding stack_checks
 returns-then-tested-ne0 c = checked-stops _ _ c.test-tested.ensures (λ z. omega (arith, c.if-tested-ne0.true))
 
 pub header_of-requires : goal.header_of-requires
-header_of-requires c = let A = (let ready-here : Accepted c.args.plan.now = accepted-plan _ (checked-passes c.test-tested.ensures c.if-tested-ne0.false) in ready-here) in omega (arith, A.framed.long)
+header_of-requires c =
+    let ready : Accepted c.args.plan.now = accepted-plan _ (checked-passes c.test-tested.ensures c.if-tested-ne0.false) in
+    let A = ready in omega (arith, A.framed.long)
 
 pub lent_checks-requires : goal.lent_checks-requires
-lent_checks-requires c = accepted-with _ _ c.header_of.ensures ((let ready-here : Accepted c.args.plan.now = accepted-plan _ (checked-passes c.test-tested.ensures c.if-tested-ne0.false) in ready-here))
+lent_checks-requires c =
+    let ready : Accepted c.args.plan.now = accepted-plan _ (checked-passes c.test-tested.ensures c.if-tested-ne0.false) in
+    accepted-with _ _ c.header_of.ensures ready
 
 pub returns : goal.returns
 unfolding code_of stack_checks

@@ -20,26 +20,30 @@ use Rattle.stack.proofs.reading.read_at.Goals as goal
 pub returns : goal.returns
 unfolding data_size
 returns c =
+    let place_is : let a = c.args in c.place-start.result ≡ sheet_place (sheet_size ((code_with c.args.plan.now c.args.h))) a.count a.i = let a = c.args in
+    let e : c.place-start.result ≡ sheet_place c.sheet_bytes-size.result a.count a.i = c.place-start.ensures in
+    e ∙ ap (λ (k : ℕ). sheet_place k a.count a.i) c.sheet_bytes-size.ensures.0 in
     let a = c.args in
-    step-taken a.plan.now ((code_with c.args.plan.now c.args.h)) a.count a.i a.stack.now a.numbers.now a.bits.now _ _ _ ((let place_is-here : let place_is-ta = c.args in c.place-start.result ≡ sheet_place (sheet_size ((code_with c.args.plan.now c.args.h))) place_is-ta.count place_is-ta.i = let place_is-a = c.args in
-    let place_is-e : c.place-start.result ≡ sheet_place c.sheet_bytes-size.result place_is-a.count place_is-a.i = c.place-start.ensures in
-    place_is-e ∙ ap (λ (k : ℕ). sheet_place k place_is-a.count place_is-a.i) c.sheet_bytes-size.ensures.0 in place_is-here))
+    step-taken a.plan.now ((code_with c.args.plan.now c.args.h)) a.count a.i a.stack.now a.numbers.now a.bits.now _ _ _ place_is
     c.sheet_bytes-size.ensures.0 c.data_bytes-length.ensures.0 _ c.read_sheet.ensures
 
 pub slice_bounds-read_sheet-end : goal.slice_bounds-read_sheet-end
 slice_bounds-read_sheet-end c =
+    let place_is : let a = c.args in c.place-start.result ≡ sheet_place (sheet_size ((code_with c.args.plan.now c.args.h))) a.count a.i = let a = c.args in
+    let e : c.place-start.result ≡ sheet_place c.sheet_bytes-size.result a.count a.i = c.place-start.ensures in
+    e ∙ ap (λ (k : ℕ). sheet_place k a.count a.i) c.sheet_bytes-size.ensures.0 in
+    let sheet-in : sheet_place (sheet_size ((code_with c.args.plan.now c.args.h))) c.args.count c.args.i + sheet_size ((code_with c.args.plan.now c.args.h)) ≤ length c.args.stack.now = let p = c.requires in
+    sheet-inside c.args.plan.now ((code_with c.args.plan.now c.args.h)) (framed-code _ _ p.accepted_with.framed) c.args.count ((lent c.args.stack.now c.args.numbers.now c.args.bits.now)) p.sized c.args.i p.count_bound.1 in
     let e : c.place-start.result + c.sheet_bytes-size.result ≤ length c.args.stack.now =
-    (let s = (let sheet-in-here : sheet_place (sheet_size ((code_with c.args.plan.now c.args.h))) c.args.count c.args.i + sheet_size ((code_with c.args.plan.now c.args.h)) ≤ length c.args.stack.now = let sheet-in-p = c.requires in
-    sheet-inside c.args.plan.now ((code_with c.args.plan.now c.args.h)) (framed-code _ _ sheet-in-p.accepted_with.framed) c.args.count ((lent c.args.stack.now c.args.numbers.now c.args.bits.now)) sheet-in-p.sized c.args.i sheet-in-p.count_bound.1 in sheet-in-here) in omega (arith, (let place_is-here : let place_is-ta = c.args in c.place-start.result ≡ sheet_place (sheet_size ((code_with c.args.plan.now c.args.h))) place_is-ta.count place_is-ta.i = let place_is-a = c.args in
-    let place_is-e : c.place-start.result ≡ sheet_place c.sheet_bytes-size.result place_is-a.count place_is-a.i = c.place-start.ensures in
-    place_is-e ∙ ap (λ (k : ℕ). sheet_place k place_is-a.count place_is-a.i) c.sheet_bytes-size.ensures.0 in place_is-here), c.sheet_bytes-size.ensures.0)) in
+    (let s = sheet-in in omega (arith, place_is, c.sheet_bytes-size.ensures.0)) in
     e
 
 pub slice_bounds-read_sheet-end-3 : goal.slice_bounds-read_sheet-end-3
 unfolding data_size
 slice_bounds-read_sheet-end-3 c =
-    rw c.data_bytes-length.ensures.0 ((let bits_in-here : c.args.i * data_bytes ((code_with c.args.plan.now c.args.h)) + data_bytes ((code_with c.args.plan.now c.args.h)) ≤ length c.args.bits.now = let bits_in-p = c.requires in
-    bits_inside c.args.plan.now ((code_with c.args.plan.now c.args.h)) (framed-code _ _ bits_in-p.accepted_with.framed) c.args.count ((lent c.args.stack.now c.args.numbers.now c.args.bits.now)) bits_in-p.sized c.args.i bits_in-p.count_bound.1 in bits_in-here))
+    let bits_in : c.args.i * data_bytes ((code_with c.args.plan.now c.args.h)) + data_bytes ((code_with c.args.plan.now c.args.h)) ≤ length c.args.bits.now = let p = c.requires in
+    bits_inside c.args.plan.now ((code_with c.args.plan.now c.args.h)) (framed-code _ _ p.accepted_with.framed) c.args.count ((lent c.args.stack.now c.args.numbers.now c.args.bits.now)) p.sized c.args.i p.count_bound.1 in
+    rw c.data_bytes-length.ensures.0 bits_in
 
 pub overflow_add-end : goal.overflow_add-end
 unfolding header_end sheet_place
@@ -56,25 +60,36 @@ data_bytes-length-requires c =
 
 pub overflow_mul-from : goal.overflow_mul-from
 overflow_mul-from c =
-    let m = (let from-most-here : c.args.i * c.data_bytes-length.result ≤ 64 * 45056 = let from-most-p = c.requires.count_bound in
-    let from-most-l : c.args.i ≤ 64 = omega (arith, from-most-p.0, from-most-p.1) in
-    mul-le-mul from-most-l c.data_bytes-length.ensures.1 in from-most-here) in omega arith
+    let from-most : c.args.i * c.data_bytes-length.result ≤ 64 * 45056 = let p = c.requires.count_bound in
+    let l : c.args.i ≤ 64 = omega (arith, p.0, p.1) in
+    mul-le-mul l c.data_bytes-length.ensures.1 in
+    let m = from-most in omega arith
 
 pub overflow_add-to : goal.overflow_add-to
 overflow_add-to c =
-    let m = (let from-most-here : c.args.i * c.data_bytes-length.result ≤ 64 * 45056 = let from-most-p = c.requires.count_bound in
-    let from-most-l : c.args.i ≤ 64 = omega (arith, from-most-p.0, from-most-p.1) in
-    mul-le-mul from-most-l c.data_bytes-length.ensures.1 in from-most-here) in omega (arith, c.data_bytes-length.ensures.1)
+    let from-most : c.args.i * c.data_bytes-length.result ≤ 64 * 45056 = let p = c.requires.count_bound in
+    let l : c.args.i ≤ 64 = omega (arith, p.0, p.1) in
+    mul-le-mul l c.data_bytes-length.ensures.1 in
+    let m = from-most in omega (arith, c.data_bytes-length.ensures.1)
 
 pub read_sheet-requires : goal.read_sheet-requires
 unfolding data_size
 read_sheet-requires c =
+    let place_is : let a = c.args in c.place-start.result ≡ sheet_place (sheet_size ((code_with c.args.plan.now c.args.h))) a.count a.i = let a = c.args in
+    let e : c.place-start.result ≡ sheet_place c.sheet_bytes-size.result a.count a.i = c.place-start.ensures in
+    e ∙ ap (λ (k : ℕ). sheet_place k a.count a.i) c.sheet_bytes-size.ensures.0 in
+    let sheet-in : sheet_place (sheet_size ((code_with c.args.plan.now c.args.h))) c.args.count c.args.i + sheet_size ((code_with c.args.plan.now c.args.h)) ≤ length c.args.stack.now = let p = c.requires in
+    sheet-inside c.args.plan.now ((code_with c.args.plan.now c.args.h)) (framed-code _ _ p.accepted_with.framed) c.args.count ((lent c.args.stack.now c.args.numbers.now c.args.bits.now)) p.sized c.args.i p.count_bound.1 in
+    let bits_in : c.args.i * data_bytes ((code_with c.args.plan.now c.args.h)) + data_bytes ((code_with c.args.plan.now c.args.h)) ≤ length c.args.bits.now = let p = c.requires in
+    bits_inside c.args.plan.now ((code_with c.args.plan.now c.args.h)) (framed-code _ _ p.accepted_with.framed) c.args.count ((lent c.args.stack.now c.args.numbers.now c.args.bits.now)) p.sized c.args.i p.count_bound.1 in
     let p = c.requires in
     let a = c.args in
     let size = c.sheet_bytes-size.ensures.0 in
-    let bits = c.data_bytes-length.ensures.0 in record { accepted_with = p.accepted_with; unpacked = p.unpacked; sheet_len = ap length (cut-part a.stack.now _ _ _ _ ((let place_is-here : let place_is-ta = c.args in c.place-start.result ≡ sheet_place (sheet_size ((code_with c.args.plan.now c.args.h))) place_is-ta.count place_is-ta.i = let place_is-a = c.args in
-    let place_is-e : c.place-start.result ≡ sheet_place c.sheet_bytes-size.result place_is-a.count place_is-a.i = c.place-start.ensures in
-    place_is-e ∙ ap (λ (k : ℕ). sheet_place k place_is-a.count place_is-a.i) c.sheet_bytes-size.ensures.0 in place_is-here)) size) ∙ part_length a.stack.now _ _ ((let sheet-in-here : sheet_place (sheet_size ((code_with c.args.plan.now c.args.h))) c.args.count c.args.i + sheet_size ((code_with c.args.plan.now c.args.h)) ≤ length c.args.stack.now = let sheet-in-p = c.requires in
-    sheet-inside c.args.plan.now ((code_with c.args.plan.now c.args.h)) (framed-code _ _ sheet-in-p.accepted_with.framed) c.args.count ((lent c.args.stack.now c.args.numbers.now c.args.bits.now)) sheet-in-p.sized c.args.i sheet-in-p.count_bound.1 in sheet-in-here)); numbers_len = ap length (cut-part a.numbers.now (a.i * numbers_size) numbers_size (a.i * numbers_size) numbers_size refl refl)
-                ∙ part_length a.numbers.now (a.i * numbers_size) numbers_size (omega (arith, p.count_bound.1, p.sized.numbers-size)); bits_len = ap length (cut-part a.bits.now _ _ _ _ (ap (λ (k : ℕ). a.i * k) bits) bits) ∙ part_length a.bits.now _ _ ((let bits_in-here : c.args.i * data_bytes ((code_with c.args.plan.now c.args.h)) + data_bytes ((code_with c.args.plan.now c.args.h)) ≤ length c.args.bits.now = let bits_in-p = c.requires in
-    bits_inside c.args.plan.now ((code_with c.args.plan.now c.args.h)) (framed-code _ _ bits_in-p.accepted_with.framed) c.args.count ((lent c.args.stack.now c.args.numbers.now c.args.bits.now)) bits_in-p.sized c.args.i bits_in-p.count_bound.1 in bits_in-here)) }
+    let bits = c.data_bytes-length.ensures.0 in record {
+      accepted_with = p.accepted_with;
+      unpacked = p.unpacked;
+      sheet_len = ap length (cut-part a.stack.now _ _ _ _ place_is size) ∙ part_length a.stack.now _ _ sheet-in;
+      numbers_len = ap length (cut-part a.numbers.now (a.i * numbers_size) numbers_size (a.i * numbers_size) numbers_size refl refl)
+          ∙ part_length a.numbers.now (a.i * numbers_size) numbers_size (omega (arith, p.count_bound.1, p.sized.numbers-size));
+      bits_len = ap length (cut-part a.bits.now _ _ _ _ (ap (λ (k : ℕ). a.i * k) bits) bits) ∙ part_length a.bits.now _ _ bits_in;
+    }

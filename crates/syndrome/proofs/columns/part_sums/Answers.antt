@@ -9,33 +9,33 @@ use Rattle.syndrome.proofs.columns.part_sums.Goals as goal
 
 pub overflow_mul-from : goal.overflow_mul-from
 overflow_mul-from c =
-    let w = (let inside-here : (let Inside-here : Type 0 = (c.args.j * c.args.h.b1 + c.args.h.b1 ≤ c.args.h.n2 * c.args.h.b1)
-    × (c.args.j * row_bytes c.args.h.n1 + c.args.b < length c.args.sheet.now) in Inside-here) = let p = c.requires in
-    (own-inside _ _ _ p.tables _ p.j_lt_n2, byte_inside _ _ _ _ _ p.sheet_len p.b_bound p.j_lt_n2) in inside-here) in omega arith
+    let inside : ((c.args.j * c.args.h.b1 + c.args.h.b1 ≤ c.args.h.n2 * c.args.h.b1) × (c.args.j * row_bytes c.args.h.n1 + c.args.b < length c.args.sheet.now)) = let p = c.requires in
+    (own-inside _ _ _ p.tables _ p.j_lt_n2, byte_inside _ _ _ _ _ p.sheet_len p.b_bound p.j_lt_n2) in
+    let w = inside in omega arith
 
 pub overflow_add-past : goal.overflow_add-past
 overflow_add-past c =
-    let w = (let inside-here : (let Inside-here : Type 0 = (c.args.j * c.args.h.b1 + c.args.h.b1 ≤ c.args.h.n2 * c.args.h.b1)
-    × (c.args.j * row_bytes c.args.h.n1 + c.args.b < length c.args.sheet.now) in Inside-here) = let p = c.requires in
-    (own-inside _ _ _ p.tables _ p.j_lt_n2, byte_inside _ _ _ _ _ p.sheet_len p.b_bound p.j_lt_n2) in inside-here) in omega arith
+    let inside : ((c.args.j * c.args.h.b1 + c.args.h.b1 ≤ c.args.h.n2 * c.args.h.b1) × (c.args.j * row_bytes c.args.h.n1 + c.args.b < length c.args.sheet.now)) = let p = c.requires in
+    (own-inside _ _ _ p.tables _ p.j_lt_n2, byte_inside _ _ _ _ _ p.sheet_len p.b_bound p.j_lt_n2) in
+    let w = inside in omega arith
 
 pub overflow_mul-x : goal.overflow_mul-x
 overflow_mul-x c =
-    let w = (let inside-here : (let Inside-here : Type 0 = (c.args.j * c.args.h.b1 + c.args.h.b1 ≤ c.args.h.n2 * c.args.h.b1)
-    × (c.args.j * row_bytes c.args.h.n1 + c.args.b < length c.args.sheet.now) in Inside-here) = let p = c.requires in
-    (own-inside _ _ _ p.tables _ p.j_lt_n2, byte_inside _ _ _ _ _ p.sheet_len p.b_bound p.j_lt_n2) in inside-here) in rw c.row_bytes.ensures (omega arith)
+    let inside : ((c.args.j * c.args.h.b1 + c.args.h.b1 ≤ c.args.h.n2 * c.args.h.b1) × (c.args.j * row_bytes c.args.h.n1 + c.args.b < length c.args.sheet.now)) = let p = c.requires in
+    (own-inside _ _ _ p.tables _ p.j_lt_n2, byte_inside _ _ _ _ _ p.sheet_len p.b_bound p.j_lt_n2) in
+    let w = inside in rw c.row_bytes.ensures (omega arith)
 
 pub overflow_add-x : goal.overflow_add-x
 overflow_add-x c =
-    let w = (let inside-here : (let Inside-here : Type 0 = (c.args.j * c.args.h.b1 + c.args.h.b1 ≤ c.args.h.n2 * c.args.h.b1)
-    × (c.args.j * row_bytes c.args.h.n1 + c.args.b < length c.args.sheet.now) in Inside-here) = let p = c.requires in
-    (own-inside _ _ _ p.tables _ p.j_lt_n2, byte_inside _ _ _ _ _ p.sheet_len p.b_bound p.j_lt_n2) in inside-here) in rw c.row_bytes.ensures (omega arith)
+    let inside : ((c.args.j * c.args.h.b1 + c.args.h.b1 ≤ c.args.h.n2 * c.args.h.b1) × (c.args.j * row_bytes c.args.h.n1 + c.args.b < length c.args.sheet.now)) = let p = c.requires in
+    (own-inside _ _ _ p.tables _ p.j_lt_n2, byte_inside _ _ _ _ _ p.sheet_len p.b_bound p.j_lt_n2) in
+    let w = inside in rw c.row_bytes.ensures (omega arith)
 
 pub bounds-sheet-j : goal.bounds-sheet-j
 bounds-sheet-j c =
-    rw c.row_bytes.ensures ((let inside-here : (let Inside-here : Type 0 = (c.args.j * c.args.h.b1 + c.args.h.b1 ≤ c.args.h.n2 * c.args.h.b1)
-    × (c.args.j * row_bytes c.args.h.n1 + c.args.b < length c.args.sheet.now) in Inside-here) = let p = c.requires in
-    (own-inside _ _ _ p.tables _ p.j_lt_n2, byte_inside _ _ _ _ _ p.sheet_len p.b_bound p.j_lt_n2) in inside-here)).1
+    let inside : ((c.args.j * c.args.h.b1 + c.args.h.b1 ≤ c.args.h.n2 * c.args.h.b1) × (c.args.j * row_bytes c.args.h.n1 + c.args.b < length c.args.sheet.now)) = let p = c.requires in
+    (own-inside _ _ _ p.tables _ p.j_lt_n2, byte_inside _ _ _ _ _ p.sheet_len p.b_bound p.j_lt_n2) in
+    rw c.row_bytes.ensures inside.1
 
 pub overflow_mul-b : goal.overflow_mul-b
 unfolding row_bytes
@@ -43,9 +43,15 @@ overflow_mul-b c = omega arith
 
 pub offset_bounds-columns-from : goal.offset_bounds-columns-from
 offset_bounds-columns-from c =
-    let w = (let inside-here : (let Inside-here : Type 0 = (c.args.j * c.args.h.b1 + c.args.h.b1 ≤ c.args.h.n2 * c.args.h.b1)
-    × (c.args.j * row_bytes c.args.h.n1 + c.args.b < length c.args.sheet.now) in Inside-here) = let p = c.requires in
-    (own-inside _ _ _ p.tables _ p.j_lt_n2, byte_inside _ _ _ _ _ p.sheet_len p.b_bound p.j_lt_n2) in inside-here) in omega arith
+    let inside : ((c.args.j * c.args.h.b1 + c.args.h.b1 ≤ c.args.h.n2 * c.args.h.b1) × (c.args.j * row_bytes c.args.h.n1 + c.args.b < length c.args.sheet.now)) = let p = c.requires in
+    (own-inside _ _ _ p.tables _ p.j_lt_n2, byte_inside _ _ _ _ _ p.sheet_len p.b_bound p.j_lt_n2) in
+    let w = inside in omega arith
+
+pub slice_bounds-byte_sums-end : goal.slice_bounds-byte_sums-end
+slice_bounds-byte_sums-end c =
+    let inside : ((c.args.j * c.args.h.b1 + c.args.h.b1 ≤ c.args.h.n2 * c.args.h.b1) × (c.args.j * row_bytes c.args.h.n1 + c.args.b < length c.args.sheet.now)) = let p = c.requires in
+    (own-inside _ _ _ p.tables _ p.j_lt_n2, byte_inside _ _ _ _ _ p.sheet_len p.b_bound p.j_lt_n2) in
+    let w = inside in omega arith
 
 pub byte_sums-s-requires : goal.byte_sums-s-requires
 unfolding row_bytes

@@ -24,60 +24,60 @@ smaller-count-requires c = tt
 
 pub overflow_mul-k : goal.overflow_mul-k
 overflow_mul-k c =
-    let l = (let start-here : c.args.j * c.args.b1 + c.args.q
-    < c.args.n2 * c.args.b1 = index_below _ _ _ _ _ _ c.requires.words _ c.requires.j_lt_n2 in start-here) in omega arith
+    let start : c.args.j * c.args.b1 + c.args.q < c.args.n2 * c.args.b1 = index_below _ _ _ _ _ _ c.requires.words _ c.requires.j_lt_n2 in
+    let l = start in omega arith
 
 pub overflow_add-k : goal.overflow_add-k
 overflow_add-k c =
-    let l = (let start-here : c.args.j * c.args.b1 + c.args.q
-    < c.args.n2 * c.args.b1 = index_below _ _ _ _ _ _ c.requires.words _ c.requires.j_lt_n2 in start-here) in omega arith
+    let start : c.args.j * c.args.b1 + c.args.q < c.args.n2 * c.args.b1 = index_below _ _ _ _ _ _ c.requires.words _ c.requires.j_lt_n2 in
+    let l = start in omega arith
 
 pub loop-t-init : goal.loop-t-init
 loop-t-init c = (omega arith, c.smaller-count.ensures, walk_first _ _ _ _ _ _ _)
 
 pub offset_bounds-rows-place : goal.offset_bounds-rows-place
 offset_bounds-rows-place c =
-    let w = (let here-here : Here c.args.n2 c.args.b1 c.args.b2 c.args.rows.now c.args.columns.now
-    c.loop-t.place c.loop-t.k = walk_here _ _ _ _ _ _ _ _ _ _ _ _ _ _ c.requires.words c.loop-t.invariant.2 (omega arith) in here-here) in omega arith
+    let here : Here c.args.n2 c.args.b1 c.args.b2 c.args.rows.now c.args.columns.now c.loop-t.place c.loop-t.k = walk_here _ _ _ _ _ _ _ _ _ _ _ _ _ _ c.requires.words c.loop-t.invariant.2 (omega arith) in
+    let w = here in omega arith
 
 pub bounds-rows-place : goal.bounds-rows-place
 bounds-rows-place c =
-    let w = (let here-here : Here c.args.n2 c.args.b1 c.args.b2 c.args.rows.now c.args.columns.now
-    c.loop-t.place c.loop-t.k = walk_here _ _ _ _ _ _ _ _ _ _ _ _ _ _ c.requires.words c.loop-t.invariant.2 (omega arith) in here-here) in omega arith
+    let here : Here c.args.n2 c.args.b1 c.args.b2 c.args.rows.now c.args.columns.now c.loop-t.place c.loop-t.k = walk_here _ _ _ _ _ _ _ _ _ _ _ _ _ _ c.requires.words c.loop-t.invariant.2 (omega arith) in
+    let w = here in omega arith
 
 pub overflow_mul-row : goal.overflow_mul-row
 overflow_mul-row c =
-    let w = (let here-here : Here c.args.n2 c.args.b1 c.args.b2 c.args.rows.now c.args.columns.now
-    c.loop-t.place c.loop-t.k = walk_here _ _ _ _ _ _ _ _ _ _ _ _ _ _ c.requires.words c.loop-t.invariant.2 (omega arith) in here-here) in
+    let here : Here c.args.n2 c.args.b1 c.args.b2 c.args.rows.now c.args.columns.now c.loop-t.place c.loop-t.k = walk_here _ _ _ _ _ _ _ _ _ _ _ _ _ _ c.requires.words c.loop-t.invariant.2 (omega arith) in
+    let w = here in
     let l = c.loop-t in
     omega (arith, times-le (get_or c.args.rows.now l.place 0) l.rest)
 
 pub offset_bounds-columns-k : goal.offset_bounds-columns-k
 offset_bounds-columns-k c =
-    let w = (let here-here : Here c.args.n2 c.args.b1 c.args.b2 c.args.rows.now c.args.columns.now
-    c.loop-t.place c.loop-t.k = walk_here _ _ _ _ _ _ _ _ _ _ _ _ _ _ c.requires.words c.loop-t.invariant.2 (omega arith) in here-here) in omega arith
+    let here : Here c.args.n2 c.args.b1 c.args.b2 c.args.rows.now c.args.columns.now c.loop-t.place c.loop-t.k = walk_here _ _ _ _ _ _ _ _ _ _ _ _ _ _ c.requires.words c.loop-t.invariant.2 (omega arith) in
+    let w = here in omega arith
 
 pub bounds-columns-k : goal.bounds-columns-k
 bounds-columns-k c =
-    let w = (let here-here : Here c.args.n2 c.args.b1 c.args.b2 c.args.rows.now c.args.columns.now
-    c.loop-t.place c.loop-t.k = walk_here _ _ _ _ _ _ _ _ _ _ _ _ _ _ c.requires.words c.loop-t.invariant.2 (omega arith) in here-here) in omega arith
+    let here : Here c.args.n2 c.args.b1 c.args.b2 c.args.rows.now c.args.columns.now c.loop-t.place c.loop-t.k = walk_here _ _ _ _ _ _ _ _ _ _ _ _ _ _ c.requires.words c.loop-t.invariant.2 (omega arith) in
+    let w = here in omega arith
 
 pub overflow_mul-column : goal.overflow_mul-column
 overflow_mul-column c =
-    let w = (let here-here : Here c.args.n2 c.args.b1 c.args.b2 c.args.rows.now c.args.columns.now
-    c.loop-t.place c.loop-t.k = walk_here _ _ _ _ _ _ _ _ _ _ _ _ _ _ c.requires.words c.loop-t.invariant.2 (omega arith) in here-here) in
+    let here : Here c.args.n2 c.args.b1 c.args.b2 c.args.rows.now c.args.columns.now c.loop-t.place c.loop-t.k = walk_here _ _ _ _ _ _ _ _ _ _ _ _ _ _ c.requires.words c.loop-t.invariant.2 (omega arith) in
+    let w = here in
     let l = c.loop-t in
     omega (arith, times-le (get_or c.args.columns.now l.k 0) l.rest)
 
 pub after-place-requires : goal.after-place-requires
 after-place-requires c =
-    let w = (let here-here : Here c.args.n2 c.args.b1 c.args.b2 c.args.rows.now c.args.columns.now
-    c.loop-t.place c.loop-t.k = walk_here _ _ _ _ _ _ _ _ _ _ _ _ _ _ c.requires.words c.loop-t.invariant.2 (omega arith) in here-here) in omega arith
+    let here : Here c.args.n2 c.args.b1 c.args.b2 c.args.rows.now c.args.columns.now c.loop-t.place c.loop-t.k = walk_here _ _ _ _ _ _ _ _ _ _ _ _ _ _ c.requires.words c.loop-t.invariant.2 (omega arith) in
+    let w = here in omega arith
 
 pub overflow_add-k-in-loop-t : goal.overflow_add-k-in-loop-t
 overflow_add-k-in-loop-t c =
-    let w = (let here-here : Here c.args.n2 c.args.b1 c.args.b2 c.args.rows.now c.args.columns.now
-    c.loop-t.place c.loop-t.k = walk_here _ _ _ _ _ _ _ _ _ _ _ _ _ _ c.requires.words c.loop-t.invariant.2 (omega arith) in here-here) in omega arith
+    let here : Here c.args.n2 c.args.b1 c.args.b2 c.args.rows.now c.args.columns.now c.loop-t.place c.loop-t.k = walk_here _ _ _ _ _ _ _ _ _ _ _ _ _ _ c.requires.words c.loop-t.invariant.2 (omega arith) in
+    let w = here in omega arith
 
 pub overflow_add-t : goal.overflow_add-t
 overflow_add-t c = omega arith

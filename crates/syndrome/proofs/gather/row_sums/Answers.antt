@@ -24,8 +24,7 @@ overflow_mul-from c =
     omega arith
 
 pub loop-b-init : goal.loop-b-init
-loop-b-init c =
-    (
+loop-b-init c = (
   omega arith,
   c.row_bytes-size.ensures,
   refl,
@@ -36,20 +35,22 @@ loop-b-init c =
 pub overflow_add-from : goal.overflow_add-from
 unfolding sheet_bytes
 overflow_add-from c =
-    let l = (let inside-here : c.args.i * c.row_bytes-size.result + c.loop-b.b < length c.args.sheet.now = let a = c.args in
+    let inside : c.args.i * c.row_bytes-size.result + c.loop-b.b < length c.args.sheet.now = let a = c.args in
     let size = c.row_bytes-size.result in
     let l : a.i * size + c.loop-b.b < a.h.n1 * size = digits_lt c.requires.i_lt_n1 c.loop-b-test.true in
     let e : a.h.n1 * size ≡ length a.sheet.now = rw c.loop-b.invariant.1 (sym c.requires.sheet_len) in
-    omega arith in inside-here) in omega arith
+    omega arith in
+    let l = inside in omega arith
 
 pub bounds-sheet-from : goal.bounds-sheet-from
 unfolding sheet_bytes
 bounds-sheet-from c =
-    let l = (let inside-here : c.args.i * c.row_bytes-size.result + c.loop-b.b < length c.args.sheet.now = let a = c.args in
+    let inside : c.args.i * c.row_bytes-size.result + c.loop-b.b < length c.args.sheet.now = let a = c.args in
     let size = c.row_bytes-size.result in
     let l : a.i * size + c.loop-b.b < a.h.n1 * size = digits_lt c.requires.i_lt_n1 c.loop-b-test.true in
     let e : a.h.n1 * size ≡ length a.sheet.now = rw c.loop-b.invariant.1 (sym c.requires.sheet_len) in
-    omega arith in inside-here) in omega arith
+    omega arith in
+    let l = inside in omega arith
 
 pub overflow_mul-b : goal.overflow_mul-b
 unfolding row_bytes

@@ -20,6 +20,7 @@ one_more f k words x l u e = record {
   where
     here : get_or (set words k x) k 0 ≡ x
     here = get_or-set_same words k x 0 (let n = u.size in omega arith)
+
     at : (j : ℕ) → j < k + 1 → Dec (j ≡ k) → (get_or (set words k x) j 0 ≡ f j) × (get_or (set words k x) j 0 < 4294967296)
     at j lj (yes q) = rw (q, here) e
     at j lj (no q) = rw (get_or-set_other words k j x 0 q) (u.entry j (omega arith), u.below j (omega arith))
@@ -29,18 +30,18 @@ loop-k-init c = (omega arith, refl, record { size = length-replicate {A = ℕ} 4
 
 pub overflow_mul-i : goal.overflow_mul-i
 overflow_mul-i c =
-    let l = (let inside-here : c.args.i * c.args.h.b2 + c.loop-k.k
-    < c.args.h.n1 * c.args.h.b2 = digits_lt c.requires.i_lt_n1 c.loop-k-test.true in inside-here) in omega arith
+    let inside : c.args.i * c.args.h.b2 + c.loop-k.k < c.args.h.n1 * c.args.h.b2 = digits_lt c.requires.i_lt_n1 c.loop-k-test.true in
+    let l = inside in omega arith
 
 pub overflow_add-i : goal.overflow_add-i
 overflow_add-i c =
-    let l = (let inside-here : c.args.i * c.args.h.b2 + c.loop-k.k
-    < c.args.h.n1 * c.args.h.b2 = digits_lt c.requires.i_lt_n1 c.loop-k-test.true in inside-here) in omega arith
+    let inside : c.args.i * c.args.h.b2 + c.loop-k.k < c.args.h.n1 * c.args.h.b2 = digits_lt c.requires.i_lt_n1 c.loop-k-test.true in
+    let l = inside in omega arith
 
 pub row_entry-requires : goal.row_entry-requires
 row_entry-requires c =
-    record { framed = c.requires.framed; k_bound = (let inside-here : c.args.i * c.args.h.b2 + c.loop-k.k
-    < c.args.h.n1 * c.args.h.b2 = digits_lt c.requires.i_lt_n1 c.loop-k-test.true in inside-here) }
+    let inside : c.args.i * c.args.h.b2 + c.loop-k.k < c.args.h.n1 * c.args.h.b2 = digits_lt c.requires.i_lt_n1 c.loop-k-test.true in
+    record { framed = c.requires.framed; k_bound = inside }
 
 pub offset_bounds-words-k : goal.offset_bounds-words-k
 offset_bounds-words-k c = omega arith

@@ -20,18 +20,24 @@ returns-then-verdict-ne0 c =
 pub returns : goal.returns
 unfolding code_of turned_sheet
 returns c =
+    let passes : let a = c.args in (transpose_checks a.lay a.plan.now a.source.now a.target.now).number ≡ 0 = checked-passes c.transpose_checks-verdict.ensures c.if-verdict-ne0.false in
+    let whole : let a = c.args in c.transpose_in.new.target ≡ turned_sheet a.lay a.plan.now a.source.now = rw c.header_of-h.ensures at c.transpose_in.ensures in
     let e = c.transpose_checks-verdict.ensures.verdict in
-    ap₂ turned_over e ((let whole-here : let whole-ta = c.args in
-    c.transpose_in.new.target ≡ turned_sheet whole-ta.lay whole-ta.plan.now whole-ta.source.now = rw c.header_of-h.ensures at c.transpose_in.ensures in whole-here)) ∙ sym (turn-done _ _ _ _ ((let passes-here : let passes-ta = c.args in (transpose_checks passes-ta.lay passes-ta.plan.now passes-ta.source.now passes-ta.target.now).number ≡ 0 = checked-passes c.transpose_checks-verdict.ensures c.if-verdict-ne0.false in passes-here)))
+    ap₂ turned_over e whole ∙ sym (turn-done _ _ _ _ passes)
 
 pub header_of-h-requires : goal.header_of-h-requires
-header_of-h-requires c = let m = (let ready-here : let ready-ta = c.args in MayTranspose ready-ta.lay ready-ta.plan.now ready-ta.source.now ready-ta.target.now = transpose-zero _ _ _ _ ((let passes-here : let passes-ta = c.args in (transpose_checks passes-ta.lay passes-ta.plan.now passes-ta.source.now passes-ta.target.now).number ≡ 0 = checked-passes c.transpose_checks-verdict.ensures c.if-verdict-ne0.false in passes-here)) in ready-here) in omega (arith, m.accepted.framed.long)
+header_of-h-requires c =
+    let passes : let a = c.args in (transpose_checks a.lay a.plan.now a.source.now a.target.now).number ≡ 0 = checked-passes c.transpose_checks-verdict.ensures c.if-verdict-ne0.false in
+    let ready : let a = c.args in MayTranspose a.lay a.plan.now a.source.now a.target.now = transpose-zero _ _ _ _ passes in
+    let m = ready in omega (arith, m.accepted.framed.long)
 
 pub transpose_in-requires : goal.transpose_in-requires
 unfolding code_of
 transpose_in-requires c =
+    let passes : let a = c.args in (transpose_checks a.lay a.plan.now a.source.now a.target.now).number ≡ 0 = checked-passes c.transpose_checks-verdict.ensures c.if-verdict-ne0.false in
+    let ready : let a = c.args in MayTranspose a.lay a.plan.now a.source.now a.target.now = transpose-zero _ _ _ _ passes in
     let a = c.args in
-    let m = (let ready-here : let ready-ta = c.args in MayTranspose ready-ta.lay ready-ta.plan.now ready-ta.source.now ready-ta.target.now = transpose-zero _ _ _ _ ((let passes-here : let passes-ta = c.args in (transpose_checks passes-ta.lay passes-ta.plan.now passes-ta.source.now passes-ta.target.now).number ≡ 0 = checked-passes c.transpose_checks-verdict.ensures c.if-verdict-ne0.false in passes-here)) in ready-here) in
+    let m = ready in
     let F = m.accepted.formed in
     let size = in_size a.lay (code_of a.plan.now).n1 (code_of a.plan.now).n2 a.source.now m.form in
     rw c.header_of-h.ensures (record { sizes = record { n1-most = F.n1-most; n2-most = F.n2-most }; source_len = size; target_len = m.target-size })

@@ -21,18 +21,18 @@ loop-k-init c = (omega arith, refl, λ j l. absurd (omega arith), λ j l. zeros-
 
 pub overflow_add-top : goal.overflow_add-top
 overflow_add-top c =
-    let l = (let on-sheet-here : let on-sheet-ta = c.args in
-    let on-sheet-tk = c.loop-k.k in (on-sheet-tk / on-sheet-ta.h.b2 < on-sheet-ta.h.b1) × (on-sheet-tk % on-sheet-ta.h.b2 < on-sheet-ta.h.b2) = inside c.loop-k.k c.args.h.b1 c.args.h.b2 c.requires.framed.small.b2-pos (omega arith) in on-sheet-here) in let S = c.requires.framed.small in omega arith
+    let on-sheet : let a = c.args in let k = c.loop-k.k in (k / a.h.b2 < a.h.b1) × (k % a.h.b2 < a.h.b2) = inside c.loop-k.k c.args.h.b1 c.args.h.b2 c.requires.framed.small.b2-pos (omega arith) in
+    let l = on-sheet in let S = c.requires.framed.small in omega arith
 
 pub overflow_add-left : goal.overflow_add-left
 overflow_add-left c =
-    let l = (let on-sheet-here : let on-sheet-ta = c.args in
-    let on-sheet-tk = c.loop-k.k in (on-sheet-tk / on-sheet-ta.h.b2 < on-sheet-ta.h.b1) × (on-sheet-tk % on-sheet-ta.h.b2 < on-sheet-ta.h.b2) = inside c.loop-k.k c.args.h.b1 c.args.h.b2 c.requires.framed.small.b2-pos (omega arith) in on-sheet-here) in let S = c.requires.framed.small in omega arith
+    let on-sheet : let a = c.args in let k = c.loop-k.k in (k / a.h.b2 < a.h.b1) × (k % a.h.b2 < a.h.b2) = inside c.loop-k.k c.args.h.b1 c.args.h.b2 c.requires.framed.small.b2-pos (omega arith) in
+    let l = on-sheet in let S = c.requires.framed.small in omega arith
 
 pub weight-requires : goal.weight-requires
 weight-requires c =
-    let l = (let on-sheet-here : let on-sheet-ta = c.args in
-    let on-sheet-tk = c.loop-k.k in (on-sheet-tk / on-sheet-ta.h.b2 < on-sheet-ta.h.b1) × (on-sheet-tk % on-sheet-ta.h.b2 < on-sheet-ta.h.b2) = inside c.loop-k.k c.args.h.b1 c.args.h.b2 c.requires.framed.small.b2-pos (omega arith) in on-sheet-here) in record { framed = c.requires.framed; i_lt_n1 = omega arith; j_lt_n2 = omega arith }
+    let on-sheet : let a = c.args in let k = c.loop-k.k in (k / a.h.b2 < a.h.b1) × (k % a.h.b2 < a.h.b2) = inside c.loop-k.k c.args.h.b1 c.args.h.b2 c.requires.framed.small.b2-pos (omega arith) in
+    let l = on-sheet in record { framed = c.requires.framed; i_lt_n1 = omega arith; j_lt_n2 = omega arith }
 
 pub offset_bounds-entries-k : goal.offset_bounds-entries-k
 offset_bounds-entries-k c = let l = c.requires.framed.small.box-positions in omega arith

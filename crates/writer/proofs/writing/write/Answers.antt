@@ -18,18 +18,24 @@ returns-then-verdict-ne0 c =
     ap (λ (v : Verdict). wrote v s.sheet.now) e ∙ sym (write-refused _ _ _ _ (λ z. omega (arith, c.if-verdict-ne0.true)))
 
 pub header_of-requires : goal.header_of-requires
-header_of-requires c = let w = (let ready-here : let ready-ta = c.args in MayWrite ready-ta.lay ready-ta.plan.now ready-ta.bits.now ready-ta.sheet.now = write-zero _ _ _ _ ((let passes-here : let passes-ta = c.args in (write_checks passes-ta.lay passes-ta.plan.now passes-ta.bits.now passes-ta.sheet.now).number ≡ 0 = checked-passes c.write_checks-verdict.ensures c.if-verdict-ne0.false in passes-here)) in ready-here) in omega (arith, w.lengths.accepted.framed.long)
+header_of-requires c =
+    let passes : let a = c.args in (write_checks a.lay a.plan.now a.bits.now a.sheet.now).number ≡ 0 = checked-passes c.write_checks-verdict.ensures c.if-verdict-ne0.false in
+    let ready : let a = c.args in MayWrite a.lay a.plan.now a.bits.now a.sheet.now = write-zero _ _ _ _ passes in
+    let w = ready in omega (arith, w.lengths.accepted.framed.long)
 
 pub write_sheet-requires : goal.write_sheet-requires
 unfolding code_of
 write_sheet-requires c =
-    let L = ((let ready-here : let ready-ta = c.args in MayWrite ready-ta.lay ready-ta.plan.now ready-ta.bits.now ready-ta.sheet.now = write-zero _ _ _ _ ((let passes-here : let passes-ta = c.args in (write_checks passes-ta.lay passes-ta.plan.now passes-ta.bits.now passes-ta.sheet.now).number ≡ 0 = checked-passes c.write_checks-verdict.ensures c.if-verdict-ne0.false in passes-here)) in ready-here)).lengths in
+    let passes : let a = c.args in (write_checks a.lay a.plan.now a.bits.now a.sheet.now).number ≡ 0 = checked-passes c.write_checks-verdict.ensures c.if-verdict-ne0.false in
+    let ready : let a = c.args in MayWrite a.lay a.plan.now a.bits.now a.sheet.now = write-zero _ _ _ _ passes in
+    let L = ready.lengths in
     let u = c.write_checks-verdict.ensures.unpacked c.if-verdict-ne0.false in
     rw c.header_of.ensures (record { accepted_with = accepted-with _ _ refl L.accepted; unpacked = u; bits_len = L.bits-size; sheet_len = L.sheet-size })
 
 pub returns : goal.returns
 unfolding code_of written_in
 returns c =
+    let passes : let a = c.args in (write_checks a.lay a.plan.now a.bits.now a.sheet.now).number ≡ 0 = checked-passes c.write_checks-verdict.ensures c.if-verdict-ne0.false in
+    let whole : let a = c.args in c.write_sheet.new.sheet ≡ written_in a.lay a.plan.now a.bits.now = rw c.header_of.ensures at c.write_sheet.ensures in
     let e = c.write_checks-verdict.ensures.verdict in
-    ap₂ wrote e ((let whole-here : let whole-ta = c.args in
-    c.write_sheet.new.sheet ≡ written_in whole-ta.lay whole-ta.plan.now whole-ta.bits.now = rw c.header_of.ensures at c.write_sheet.ensures in whole-here)) ∙ sym (write_done _ _ _ _ ((let passes-here : let passes-ta = c.args in (write_checks passes-ta.lay passes-ta.plan.now passes-ta.bits.now passes-ta.sheet.now).number ≡ 0 = checked-passes c.write_checks-verdict.ensures c.if-verdict-ne0.false in passes-here)))
+    ap₂ wrote e whole ∙ sym (write_done _ _ _ _ passes)
