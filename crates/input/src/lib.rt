@@ -1,0 +1,28 @@
+// What stands on standard input, or in any other reader, into a buffer.
+#![tactic(auto)]
+
+ghost use Rattle.std.specs.Prelude.{◌≤◌, length};
+
+use std::io::Read;
+
+// One read: how many bytes it put at the start of the buffer, 0 where it failed too.
+fn read_some<R: Read>(reader: &mut R, buf: &mut [u8]) -> usize
+    ensures { result ≤ length buf.new }
+{
+    reader.read(buf).unwrap_or(0)
+}
+
+// Reads until the buffer is full, the input ends or a read fails: how many bytes are at the start of the buffer then.
+pub fn read_full<R: Read>(reader: &mut R, buf: &mut [u8]) -> usize
+    ensures { result ≤ length buf.new }
+{
+    let mut done = 0;
+    while done < buf.len() {
+        let n = read_some(reader, &mut buf[done..]);
+        if n == 0 {
+            break;
+        }
+        done += n;
+    }
+    done
+}
