@@ -1,6 +1,6 @@
 //! The built programs: `sheetread` and `trialread` beside the model's line, what each prints for what stands
 //! on its standard input; and `housetable`, which prints a table and reads nothing. Their paths are in
-//! SHEETREAD, TRIALREAD and HOUSETABLE, or `../target/bin/` and the name.
+//! SHEETREAD, TRIALREAD and HOUSETABLE; the default is where `make run`, `make trial` and `make table` build them.
 
 use sheet_tests::cases::plan_t;
 use sheet_tests::damage::{damaged, set_unused_of_sheet};
@@ -28,7 +28,7 @@ const READERS: [&str; 2] = ["sheetread", "trialread"];
 
 fn program(name: &str) -> Command {
     let told = env::var(name.to_uppercase());
-    Command::new(told.unwrap_or_else(|_| format!("../target/bin/{name}")))
+    Command::new(told.unwrap_or_else(|_| format!("../crates/{name}/out/{name}")))
 }
 
 /// What the program prints for an input that is handed over in pieces, with a pause between them.
