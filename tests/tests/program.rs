@@ -18,7 +18,6 @@ use std::env;
 use std::fs::File;
 use std::io::{pipe, ErrorKind, PipeReader, PipeWriter, Read, Seek, Write};
 use std::os::fd::AsRawFd;
-use std::os::unix::process::ExitStatusExt;
 use std::process::{Command, ExitStatus, Stdio};
 use std::thread;
 use std::time::{Duration, Instant};
@@ -302,8 +301,7 @@ fn housetable_with_output_that_fails() {
     assert_eq!(housetable_into(full).code(), Some(0));
     let (reader, writer) = pipe().expect("a pipe");
     drop(reader);
-    const SIGPIPE: i32 = 13;
-    assert_eq!(housetable_into(writer).signal(), Some(SIGPIPE));
+    assert_eq!(housetable_into(writer).code(), Some(0));
     for room in [0, 1, 2, 12] {
         let (mut reader, writer, held) = nearly_full_pipe(room);
         assert_eq!(housetable_into(writer).code(), Some(0));
