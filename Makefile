@@ -12,10 +12,10 @@ export CARGO_TARGET_DIR
 PREFIX ?= /usr/local
 DESTDIR ?=
 LIB := target/staticlib/libsheet.a
-PROGRAM := target/bin/sheetread
-TRIAL := target/bin/trialread
-TABLE := target/bin/housetable
-SOURCES := crates.txt $(shell find crates -name '*.rt' -o -name '*.antt')
+PROGRAM := crates/sheetread/out/sheetread
+TRIAL := crates/trialread/out/trialread
+TABLE := crates/housetable/out/housetable
+SOURCES := crates.txt $(shell find crates -name out -prune -o \( -name '*.rt' -o -name '*.antt' \) -print)
 N1 ?= 512
 N2 ?= 698
 B1 ?= 3
@@ -41,12 +41,13 @@ lib: $(LIB)
 
 # The kit proves what has changed, and builds only what is proved; each crate is told as it is proved.
 $(LIB): $(SOURCES)
-	@scripts/prove staticlib sheet
-	@touch $@
+	@scripts/prove lib sheet_c
+	@mkdir -p $(@D)
+	@cp crates/sheet_c/out/libsheet_c.a $@
 
 # What is told meanwhile goes to standard error, so that only what the program prints is on standard output.
 $(PROGRAM) $(TRIAL) $(TABLE): $(SOURCES)
-	@scripts/prove check $(@F) >&2
+	@scripts/prove run $(@F) >&2
 	@touch $@
 
 host: lib
@@ -74,4 +75,4 @@ bench: lib
 	    cargo run --release --offline --quiet $(if $(BEFORE),--features before) --bin bench
 
 clean:
-	rm -rf target build
+	rm -rf target build crates/*/out

@@ -1,6 +1,6 @@
 //! The built programs: `sheetread` and `trialread` beside the model's line, what each prints for what stands
 //! on its standard input; and `housetable`, which prints a table and reads nothing. Their paths are in
-//! SHEETREAD, TRIALREAD and HOUSETABLE, or `../target/bin/` and the name.
+//! SHEETREAD, TRIALREAD and HOUSETABLE; the default is where `make run`, `make trial` and `make table` build them.
 
 use sheet_tests::cases::plan_t;
 use sheet_tests::damage::{damaged, set_unused_of_sheet};
@@ -18,7 +18,6 @@ use std::env;
 use std::fs::File;
 use std::io::{pipe, ErrorKind, PipeReader, PipeWriter, Read, Seek, Write};
 use std::os::fd::AsRawFd;
-use std::os::unix::process::ExitStatusExt;
 use std::process::{Command, ExitStatus, Stdio};
 use std::thread;
 use std::time::{Duration, Instant};
@@ -28,7 +27,7 @@ const READERS: [&str; 2] = ["sheetread", "trialread"];
 
 fn program(name: &str) -> Command {
     let told = env::var(name.to_uppercase());
-    Command::new(told.unwrap_or_else(|_| format!("../target/bin/{name}")))
+    Command::new(told.unwrap_or_else(|_| format!("../crates/{name}/out/{name}")))
 }
 
 /// What the program prints for an input that is handed over in pieces, with a pause between them.
@@ -302,8 +301,7 @@ fn housetable_with_output_that_fails() {
     assert_eq!(housetable_into(full).code(), Some(0));
     let (reader, writer) = pipe().expect("a pipe");
     drop(reader);
-    const SIGPIPE: i32 = 13;
-    assert_eq!(housetable_into(writer).signal(), Some(SIGPIPE));
+    assert_eq!(housetable_into(writer).code(), Some(0));
     for room in [0, 1, 2, 12] {
         let (mut reader, writer, held) = nearly_full_pipe(room);
         assert_eq!(housetable_into(writer).code(), Some(0));

@@ -8,7 +8,7 @@ ghost use Rattle.house.specs.House.{house_columns};
 
 use gf2::powers::fill_powers;
 use house::{DEGREE, ENTRIES, LOW};
-use libc::STDOUT_FILENO;
+use std::io::Print;
 use text::put_lines;
 
 // The text of the table, at the start of out.
@@ -21,8 +21,9 @@ fn table_text(out: &mut [u8]) -> usize
     put_lines(out, 0, &words)
 }
 
-fn main() {
-    let mut out = io::large_buffer();
+// A write that fails ends the program.
+fn main(rt: HostRuntime) {
+    let mut out = [0u8; 65536];
     let end = table_text(&mut out);
-    io::write_all(STDOUT_FILENO, &out[..end]);
+    let _ = rt.write_all(&out[..end]);
 }

@@ -1,5 +1,5 @@
-// The calls for C (include/sheet.h). Each takes whatever it is handed, and answers one 64-bit number (docs/ANSWER.md).
-// A call that turns something back changes no byte of any buffer. The data buffer is called bits here.
+// The calls, as sheet_c exports them for C (include/sheet.h). Each takes whatever it is handed, and answers one 64-bit number
+// (docs/ANSWER.md). A call that turns something back changes no byte of any buffer. The data buffer is called bits here.
 #![tactic(auto)]
 
 ghost use Rattle.std.specs.Prelude.{◌≡◌};
@@ -29,8 +29,7 @@ use transpose::turning::turn_over;
 use writer::writing::write;
 
 // Tests a plan: the number and places of the first check of document 01 that fails, or 0.
-#[unsafe(no_mangle)]
-pub extern "C" fn sheet_plan_test(plan: &[u8]) -> u64
+pub fn sheet_plan_test(plan: &[u8]) -> u64
     ensures { result ≡ plan_answer plan.now }
 {
     let mut words = [0u64; 2792];
@@ -39,8 +38,7 @@ pub extern "C" fn sheet_plan_test(plan: &[u8]) -> u64
 }
 
 // Makes a plan from two polynomials, each by its degree and the coefficients below it: every byte of it, whatever the buffer held.
-#[unsafe(no_mangle)]
-pub extern "C" fn sheet_plan_make(
+pub fn sheet_plan_make(
     n1: u32,
     n2: u32,
     b1: u32,
@@ -70,8 +68,7 @@ pub extern "C" fn sheet_plan_make(
 }
 
 // Makes the house plan: what sheet_plan_make makes from the house numbers.
-#[unsafe(no_mangle)]
-pub extern "C" fn sheet_house_plan(plan: &mut [u8]) -> u64
+pub fn sheet_house_plan(plan: &mut [u8]) -> u64
     ensures { make_reply result plan.new ≡ make_call house_parameters plan.old }
 {
     let house = make_house(plan);
@@ -87,16 +84,14 @@ fn write_packed(lay: Layout, plan: &[u8], bits: &[u8], sheet: &mut [u8]) -> u64
 }
 
 // Writes the sheet that carries the data: every byte of it, whatever it held.
-#[unsafe(no_mangle)]
-pub extern "C" fn sheet_write(plan: &[u8], bits: &[u8], sheet: &mut [u8]) -> u64
+pub fn sheet_write(plan: &[u8], bits: &[u8], sheet: &mut [u8]) -> u64
     ensures { write_reply result sheet.new ≡ write_call ByRow plan.now bits.now sheet.old }
 {
     write_packed(Layout::ByRow, plan, bits, sheet)
 }
 
 // The same, with the sheet stored by columns.
-#[unsafe(no_mangle)]
-pub extern "C" fn sheet_write_by_column(plan: &[u8], bits: &[u8], sheet: &mut [u8]) -> u64
+pub fn sheet_write_by_column(plan: &[u8], bits: &[u8], sheet: &mut [u8]) -> u64
     ensures { write_reply result sheet.new ≡ write_call ByColumn plan.now bits.now sheet.old }
 {
     write_packed(Layout::ByColumn, plan, bits, sheet)
@@ -111,16 +106,14 @@ fn read_packed(by: Search, lay: Layout, plan: &[u8], sheet: &mut [u8], bits: &mu
 }
 
 // Reads a sheet: mends it in place, writes its data, and tells which cells were turned over.
-#[unsafe(no_mangle)]
-pub extern "C" fn sheet_read(plan: &[u8], sheet: &mut [u8], bits: &mut [u8]) -> u64
+pub fn sheet_read(plan: &[u8], sheet: &mut [u8], bits: &mut [u8]) -> u64
     ensures { read_reply result sheet.new bits.new ≡ read_call ByRow plan.now sheet.old bits.old }
 {
     read_packed(Search::ByWindow, Layout::ByRow, plan, sheet, bits)
 }
 
 // The same, with the sheet stored by columns.
-#[unsafe(no_mangle)]
-pub extern "C" fn sheet_read_by_column(plan: &[u8], sheet: &mut [u8], bits: &mut [u8]) -> u64
+pub fn sheet_read_by_column(plan: &[u8], sheet: &mut [u8], bits: &mut [u8]) -> u64
     ensures { read_reply result sheet.new bits.new
         ≡ read_call ByColumn plan.now sheet.old bits.old }
 {
@@ -128,8 +121,7 @@ pub extern "C" fn sheet_read_by_column(plan: &[u8], sheet: &mut [u8], bits: &mut
 }
 
 // The same as sheet_read, its burst searched for by trial: for small sheets.
-#[unsafe(no_mangle)]
-pub extern "C" fn sheet_read_by_trial(plan: &[u8], sheet: &mut [u8], bits: &mut [u8]) -> u64
+pub fn sheet_read_by_trial(plan: &[u8], sheet: &mut [u8], bits: &mut [u8]) -> u64
     ensures { read_reply result sheet.new bits.new ≡ read_call ByRow plan.now sheet.old bits.old }
 {
     read_packed(Search::ByTrial, Layout::ByRow, plan, sheet, bits)
@@ -144,30 +136,21 @@ fn turn_packed(lay: Layout, plan: &[u8], source: &[u8], target: &mut [u8]) -> u6
 }
 
 // A sheet stored by rows into one stored by columns: every byte of the target, whatever it held.
-#[unsafe(no_mangle)]
-pub extern "C" fn sheet_to_columns(plan: &[u8], source: &[u8], target: &mut [u8]) -> u64
+pub fn sheet_to_columns(plan: &[u8], source: &[u8], target: &mut [u8]) -> u64
     ensures { turn_reply result target.new ≡ turn_call ByRow plan.now source.now target.old }
 {
     turn_packed(Layout::ByRow, plan, source, target)
 }
 
 // A sheet stored by columns into one stored by rows: every byte of the target, whatever it held.
-#[unsafe(no_mangle)]
-pub extern "C" fn sheet_to_rows(plan: &[u8], source: &[u8], target: &mut [u8]) -> u64
+pub fn sheet_to_rows(plan: &[u8], source: &[u8], target: &mut [u8]) -> u64
     ensures { turn_reply result target.new ≡ turn_call ByColumn plan.now source.now target.old }
 {
     turn_packed(Layout::ByColumn, plan, source, target)
 }
 
 // The two sums of the rows of a sheet from first up to but not including past: V, then H, in 8 bytes.
-#[unsafe(no_mangle)]
-pub extern "C" fn sheet_sums(
-    plan: &[u8],
-    sheet: &[u8],
-    first: u32,
-    past: u32,
-    sums: &mut [u8],
-) -> u64
+pub fn sheet_sums(plan: &[u8], sheet: &[u8], first: u32, past: u32, sums: &mut [u8]) -> u64
     ensures { sums_reply result sums.new ≡ sums_call plan.now sheet.now first past sums.old }
 {
     let summed = sum_run(plan, sheet, first as usize, past as usize, sums);
@@ -175,8 +158,7 @@ pub extern "C" fn sheet_sums(
 }
 
 // Turns one data bit of a sheet over, and brings the check cells up to date: the sheet is then as written afresh from the altered data.
-#[unsafe(no_mangle)]
-pub extern "C" fn sheet_alter(plan: &[u8], sheet: &mut [u8], position: u32) -> u64
+pub fn sheet_alter(plan: &[u8], sheet: &mut [u8], position: u32) -> u64
     ensures { alter_reply result sheet.new ≡ alter_call plan.now sheet.old position }
 {
     let altered = alter(plan, sheet, position as usize);
@@ -184,8 +166,7 @@ pub extern "C" fn sheet_alter(plan: &[u8], sheet: &mut [u8], position: u32) -> u
 }
 
 // Reads two scans of one film, each with a burst of its own or none: writes the data, and leaves both scans as they are.
-#[unsafe(no_mangle)]
-pub extern "C" fn sheet_read_two(plan: &[u8], first: &[u8], second: &[u8], bits: &mut [u8]) -> u64
+pub fn sheet_read_two(plan: &[u8], first: &[u8], second: &[u8], bits: &mut [u8]) -> u64
     ensures { read_two_reply result bits.new
         ≡ read_two_call plan.now first.now second.now bits.old }
 {
@@ -194,8 +175,7 @@ pub extern "C" fn sheet_read_two(plan: &[u8], first: &[u8], second: &[u8], bits:
 }
 
 // The row where two scans of one film first differ, as it lies in the second scan: the byte where it starts, and its length.
-#[unsafe(no_mangle)]
-pub extern "C" fn sheet_first_difference(plan: &[u8], first: &[u8], second: &[u8]) -> u64
+pub fn sheet_first_difference(plan: &[u8], first: &[u8], second: &[u8]) -> u64
     ensures { result ≡ difference_answer plan.now first.now second.now }
 {
     let part = differing_part(plan, first, second);
@@ -203,13 +183,7 @@ pub extern "C" fn sheet_first_difference(plan: &[u8], first: &[u8], second: &[u8
 }
 
 // Reads a stack of sheets under one plan, from two rooms: each sheet as if it were alone, with its nine numbers.
-#[unsafe(no_mangle)]
-pub extern "C" fn sheet_read_stack(
-    plan: &[u8],
-    stack: &mut [u8],
-    numbers: &mut [u8],
-    bits: &mut [u8],
-) -> u64
+pub fn sheet_read_stack(plan: &[u8], stack: &mut [u8], numbers: &mut [u8], bits: &mut [u8]) -> u64
     ensures { read_stack_reply result (lent stack.new numbers.new bits.new)
         ≡ read_stack_call plan.now stack.old numbers.old bits.old }
 {
@@ -218,8 +192,7 @@ pub extern "C" fn sheet_read_stack(
 }
 
 // Puts a burst back: turns the cells over that an answer of the reader tells, so that the scan is restored.
-#[unsafe(no_mangle)]
-pub extern "C" fn sheet_put_back(plan: &[u8], sheet: &mut [u8], answer: u64) -> u64
+pub fn sheet_put_back(plan: &[u8], sheet: &mut [u8], answer: u64) -> u64
     ensures { put_back_reply result sheet.new ≡ put_back_call plan.now sheet.old answer }
 {
     let put = put_back(plan, sheet, answer);

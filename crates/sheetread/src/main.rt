@@ -1,15 +1,15 @@
 // The program: a plan and a sheet on standard input, one line on standard output.
 #![tactic(auto)]
 
-use libc::{STDIN_FILENO, STDOUT_FILENO};
 use reader::search::Search;
+use std::io::Print;
 
-// At most 65,536 bytes are read, in as many pieces as they come in.
-fn main() {
-    let mut input = io::large_buffer();
-    let n = io::read_full(STDIN_FILENO, &mut input);
-    let mut sheet = io::large_buffer();
-    let mut bits = io::large_buffer();
+// At most 65,536 bytes are read, in as many pieces as they come in. A read that fails ends the input, and a write that fails the program.
+fn main(rt: HostRuntime) {
+    let mut input = [0u8; 65536];
+    let n = input::read_full(&mut rt.stdin(), &mut input);
+    let mut sheet = [0u8; 65536];
+    let mut bits = [0u8; 65536];
     let mut out = line::whole::line_buffer();
     let end = line::whole::line(
         Search::ByWindow,
@@ -18,5 +18,5 @@ fn main() {
         &mut bits,
         &mut out,
     );
-    io::write_all(STDOUT_FILENO, &out[..end]);
+    let _ = rt.write_all(&out[..end]);
 }

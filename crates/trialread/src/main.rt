@@ -1,16 +1,16 @@
 // The sales desk's program (02 j): it takes and prints what sheetread does, and reads small sheets by trial.
 #![tactic(auto)]
 
-use libc::{STDIN_FILENO, STDOUT_FILENO};
+use std::io::Print;
 
-// At most 65,536 bytes are read, in as many pieces as they come in.
-fn main() {
-    let mut input = io::large_buffer();
-    let n = io::read_full(STDIN_FILENO, &mut input);
+// At most 65,536 bytes are read, in as many pieces as they come in. A read that fails ends the input, and a write that fails the program.
+fn main(rt: HostRuntime) {
+    let mut input = [0u8; 65536];
+    let n = input::read_full(&mut rt.stdin(), &mut input);
     let by = line::choice::search_for(&input[..n]);
-    let mut sheet = io::large_buffer();
-    let mut bits = io::large_buffer();
+    let mut sheet = [0u8; 65536];
+    let mut bits = [0u8; 65536];
     let mut out = line::whole::line_buffer();
     let end = line::whole::line(by, &input[..n], &mut sheet, &mut bits, &mut out);
-    io::write_all(STDOUT_FILENO, &out[..end]);
+    let _ = rt.write_all(&out[..end]);
 }
