@@ -1,14 +1,14 @@
 -- What the first of two windows leaves of a table.
 --
---   Filled g from k n t     of the n words of t, those from a place on and before k are the values of g
+--   Filled g from k n t       of the n words of t, those from a place on and before k are the values of g
 --   filled-start, filled_next
---   prepared-rows           the words after a window, as the window's basis leaves them, tell of each pair
---   prepared-columns        so do those after a strip, reduced by the strip
---   left, row-left          one row of pairs, by what the first window leaves
+--   prepared-rows             the words after a window, as the window's basis leaves them, tell of each pair
+--   prepared-columns          so do those after a strip, reduced by the strip
+--   left, row-left            one row of pairs, by what the first window leaves
 --   block_start, block-next a block of words, one more after the other
---   filled-block, cycle-home   what a block fills, and where the next begins
---   kept-most               no more are kept than there are
---   rest-free               a part is free where all of it is counted
+--   filled-block, cycle-home  what a block fills, and where the next begins
+--   kept-most                 no more are kept than there are
+--   rest-free                 a part is free where all of it is counted
 --
 -- Assumes nothing.
 use mathlib.Core.Path.{◌≡◌, refl, sym, ap, ap₂, ◌∙◌}

@@ -14,20 +14,18 @@ use lib.Arith.{digits_div, digits_mod, digits_lt}
 use lib.Dec.{eqb, leb, ltb}
 use borrow.Author.Tests.{leb-true, le-leb, ltb-true, lt-ltb}
 use Rattle.finite.specs.Search.{within, place, count_below}
-use Rattle.finite.proofs.Truth.{Truth, is_true, is_false, true-or-false, clash, same_truth, not-true, and_left, and_right, and_both}
+use Rattle.finite.proofs.Truth.{Truth, is_true, is_false, true-or-false, same_truth, not-true, and_left, and_right, and_both}
 use Rattle.finite.proofs.Truth.{within-from, within-to, in_within}
 use Rattle.finite.proofs.Digits.{place-from, place-to, place-mod, place_is}
 use Rattle.gf2.specs.Xor.{pick}
 use Rattle.gf2.specs.Sum.{chosen_sum}
 use Rattle.gf2.specs.Independence.{Within}
 use Rattle.gf2.specs.Sparse.{IndependentUpTo, free_up_to}
-use Rattle.gf2.proofs.Sum.{sum-equal}
 use Rattle.gf2.proofs.Independence.{pick-false}
 use Rattle.gf2.proofs.Sparse.{free-up-to, so-free}
 use Rattle.boxcode.specs.Code.{Code}
 use Rattle.boxcode.specs.Condition.{column_member, column_difference, column_pair_free}
 use Rattle.boxcode.proofs.Image.{Listed, sum-image, count-injects}
-use Rattle.boxcode.proofs.Pattern.{one_number}
 use Rattle.plan.specs.Bytes.{code_from}
 use Rattle.plan.specs.declared.header.Header.{Header}
 use Rattle.plan.specs.declared.table.Table.TheVariants.{Columns}

@@ -6,10 +6,10 @@
 --   strip-row     the same by the words that the strip leaves
 --
 -- Assumes nothing.
-use mathlib.Core.Path.{◌≡◌, refl, sym, ap, ap₂, ◌∙◌}
+use mathlib.Core.Path.{◌≡◌, sym, ap, ap₂, ◌∙◌}
 use mathlib.Core.Bool.{Bool, true, false, not}
 use mathlib.Core.List.{List}
-use Prim.Native.Nat.{ℕ, zero, suc, ◌+◌, ◌-◌, ◌*◌, ◌≤◌, ◌<◌, max}
+use Prim.Native.Nat.{ℕ, suc, ◌+◌, ◌-◌, ◌*◌, ◌≤◌, ◌<◌, max}
 use native.Mathlib.Nat.{suc-mul, mul-le-mul_right}
 use native.Mathlib.Omega.{arith}
 use lib.Dec.{eqb}
@@ -17,7 +17,7 @@ use lib.ListN.{length}
 use Rattle.finite.specs.Search.{within}
 use Rattle.finite.proofs.Truth.{same_truth, clash, not-true, within-from, within-to, in_within}
 use Rattle.gf2.specs.Independence.{Within}
-use Rattle.gf2.specs.Sparse.{Apart, IndependentUpTo, apart, free_up_to}
+use Rattle.gf2.specs.Sparse.{free_up_to}
 use Rattle.gf2.proofs.Sparse.{apart-apart, so-apart, free-up-to, so-free}
 use Rattle.plan.specs.Table.{word_at}
 use Rattle.plan.specs.declared.table.Table.TheVariants.{Rows, Columns}
@@ -25,7 +25,6 @@ use Rattle.sparse.specs.Sets.{clear, set_sum, line_hit}
 use Rattle.sparse.proofs.Range.{InRange}
 use Rattle.sparse.proofs.Lines as lines
 use Rattle.sparse.proofs.Equal.{line-equal}
-use Rattle.accept.specs.declared.pairs.Pair.{Pair}
 use Rattle.accept.specs.declared.pairs.Pair.TheVariants.{Failing, Clear}
 use Rattle.accept.specs.Pairs.{in_row}
 use Rattle.accept.specs.Windows.{reduction, sparse_free, line_clear, Windows, Reduced}

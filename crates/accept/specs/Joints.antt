@@ -1,6 +1,6 @@
 -- The joint entries of the check cells, as the code gathers them.
 --
---   joints_of c      the joint entries of the check cells
+--   joints_of c     the joint entries of the check cells
 --   Joint c i j r   r is the joint entry of cell (i, j), and has rv + rh bits
 --   Joints c words  the first rv + rh words are the joint entries
 use Rattle.std.specs.Prelude.{ℕ, ◌+◌, ◌^◌, ◌≤◌, ◌<◌, ◌≡◌, List, length, take}

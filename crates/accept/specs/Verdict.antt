@@ -5,7 +5,7 @@
 --   checks_verdict      check 10: the first check cell whose joint entry is an exclusive-or of earlier ones
 --   conditions_verdict  the three in order
 --   plan_verdict        checks 1 to 10 in order: the answer of the test of a plan
---   Accepted s         the plan s meets the rules of form and the three conditions, as document 01 words them
+--   Accepted s          the plan s meets the rules of form and the three conditions, as document 01 words them
 use Rattle.std.specs.Prelude.{ℕ, ◌+◌, ◌-◌, List}
 use Rattle.finite.specs.Search.{least}
 use Rattle.gf2.specs.Independence.{spanned}

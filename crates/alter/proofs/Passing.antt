@@ -1,11 +1,11 @@
 -- The checks before altering pass exactly where the plan is accepted, the sheet of the right form, the position one of a data bit, and the sheet
 -- belongs to its plan.
 --
---   joint-test                     the joint sum is 0 exactly where a sheet belongs
---   position-right, belong-right   check 17 passes only below k, and check 18 only for a sheet that belongs
---   right-position, right-belong   and there they do
---   MayAlter, alter-zero, alters-pass   the checks before altering pass exactly there
---   alter-refused, alter-done      the outcome where a check fails, and where the checks gave 0
+--   joint-test                         the joint sum is 0 exactly where a sheet belongs
+--   position-right, belong-right       check 17 passes only below k, and check 18 only for a sheet that belongs
+--   right-position, right-belong       and there they do
+--   MayAlter, alter-zero, alters-pass  the checks before altering pass exactly there
+--   alter-refused, alter-done          the outcome where a check fails, and where the checks gave 0
 --
 -- Assumes nothing.
 use mathlib.Core.Path.{◌≡◌, sym, ap, ◌∙◌}

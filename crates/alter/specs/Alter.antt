@@ -1,10 +1,10 @@
 -- One data bit of a sheet turned over (document 02, request f).
 --
---   position_verdict          check 17: the position is k or more
---   belong_verdict            check 18: the sheet does not belong to its plan
---   alter_checks              the checks before altering: 1 to 11, 13 of the sheet, 17 and 18
---   turned_data c d bits      a string of data with bit d turned over
---   altered_bytes             every byte of the sheet written afresh from the altered data: the data that the sheet holds, with that bit turned over
+--   position_verdict         check 17: the position is k or more
+--   belong_verdict           check 18: the sheet does not belong to its plan
+--   alter_checks             the checks before altering: 1 to 11, 13 of the sheet, 17 and 18
+--   turned_data c d bits     a string of data with bit d turned over
+--   altered_bytes            every byte of the sheet written afresh from the altered data: the data that the sheet holds, with that bit turned over
 --   Altered, altered         what a call leaves: its answer and the bytes of the sheet
 --   alter plan sheet d       the outcome: number 0 and the altered sheet, or the first check that fails and the sheet as it was
 use Rattle.std.specs.Prelude.{ℕ, cond, not, List, eqb, leb}

@@ -6,7 +6,7 @@
 --
 -- Assumes nothing.
 use mathlib.Core.Path.{◌≡◌, sym, ap, ap₂, ◌∙◌}
-use mathlib.Core.Bool.{Bool, true, false, ◌&&◌, not, xor, or_comm}
+use mathlib.Core.Bool.{Bool, true, false, ◌&&◌, not, xor}
 use Prim.Native.Nat.{ℕ, ◌+◌, ◌*◌, ◌/◌, ◌%◌, ◌≤◌, ◌<◌}
 use native.Mathlib.Nat.{mod-lt, div-lt_iff_lt-mul}
 use native.Mathlib.Decide.{ℕ_discrete, dec_lt}
@@ -19,7 +19,7 @@ use Rattle.gf2.specs.Sum.{chosen_sum}
 use Rattle.gf2.specs.Independence.{Within}
 use Rattle.gf2.proofs.Xor.{xor_comm, xor_self, pick-xor, pick-zero}
 use Rattle.gf2.proofs.Sum.{sum-equal, sum-xor, chosen-differ}
-use Rattle.finite.specs.Search.{within, place, few, count_below}
+use Rattle.finite.specs.Search.{place, few, count_below}
 use Rattle.boxcode.specs.Code.{Code, Formed}
 use Rattle.boxcode.specs.Condition.{Conditions, in_window, row_member, column_member, column_difference, strip_entry}
 use Rattle.boxcode.specs.Syndrome.{Cells, row_syndrome, column_syndrome, SameCells}

@@ -1,12 +1,12 @@
 -- Sums and counts over the image of a list of different places, and the strip law:
 --
---   Listed r n g     g 0, …, g (r - 1) are different numbers below n
---   sum-image        a sum over n places that is 0 off the list is the sum over the list
---   count-image      so many places are on the list as it has entries
---   count-injects    places that are taken one to one to places at which something holds are no more than those
+--   Listed r n g      g 0, …, g (r - 1) are different numbers below n
+--   sum-image         a sum over n places that is 0 off the list is the sum over the list
+--   count-image       so many places are on the list as it has entries
+--   count-injects     places that are taken one to one to places at which something holds are no more than those
 --   picked, unpicked  a value that is chosen, and one that is not
---   place-listed     the places of the remainders are such a list
---   strip-sum        a sum over n places that is 0 off the b places from a on is the sum over the remainders modulo b
+--   place-listed      the places of the remainders are such a list
+--   strip-sum         a sum over n places that is 0 off the b places from a on is the sum over the remainders modulo b
 --
 -- Assumes nothing.
 use mathlib.Core.Path.{◌≡◌, refl, sym, ap, ap₂, ◌∙◌}

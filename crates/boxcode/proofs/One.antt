@@ -1,12 +1,12 @@
 -- One cell:
 --
---   one_cell        the set of cells that has cell (i, j) and no other
---   one-weight     its sum is the weight of the cell
---   one-turned     a sheet that belongs, with the cell turned over, has the joint entry of the cell as its joint sum
---   row_on, column-on   the cell of a data bit is on the sheet
---   one-data       it is the cell of that data bit and of no other
---   check-data     a check cell is the cell of no data bit
---   turned-data    a sheet with the cell of a data bit turned over holds its data with that bit turned over
+--   one_cell           the set of cells that has cell (i, j) and no other
+--   one-weight         its sum is the weight of the cell
+--   one-turned         a sheet that belongs, with the cell turned over, has the joint entry of the cell as its joint sum
+--   row_on, column-on  the cell of a data bit is on the sheet
+--   one-data           it is the cell of that data bit and of no other
+--   check-data         a check cell is the cell of no data bit
+--   turned-data        a sheet with the cell of a data bit turned over holds its data with that bit turned over
 --
 -- Assumes nothing.
 use mathlib.Core.Path.{◌≡◌, refl, sym, ap, ap₂, ◌∙◌}

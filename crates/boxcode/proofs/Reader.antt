@@ -1,10 +1,10 @@
 -- What the reader makes of a sheet:
 --
---   mendable                 some burst, possibly empty, brings both sums to 0
---   fits-mendable            a sheet that some burst fits is mendable
---   change-burst, change-fits   the change of a mendable sheet is a burst that fits
---   mendable-iff             a sheet is mendable exactly where some burst fits it
---   change-is                under separation the change is the burst that fits
+--   mendable                   some burst, possibly empty, brings both sums to 0
+--   fits-mendable              a sheet that some burst fits is mendable
+--   change-burst, change-fits  the change of a mendable sheet is a burst that fits
+--   mendable-iff               a sheet is mendable exactly where some burst fits it
+--   change-is                  under separation the change is the burst that fits
 --
 -- Assumes nothing.
 use mathlib.Core.Path.{◌≡◌, sym}

@@ -1,34 +1,32 @@
 -- The report of a set of cells:
 --
---   run_on                the run from the first place at which something holds to the last ends below the bound
---   box-place             digit k of a pattern number stands in a row and in a column of the rectangle
---   report-cells          equal cells on the sheet give equal reports
---   report-inside         a set on the sheet lies in the rectangle of its report
---   report-least          any rectangle that holds the set holds that one
---   report-none           the empty set has six zeros
+--   run_on                     the run from the first place at which something holds to the last ends below the bound
+--   box-place                  digit k of a pattern number stands in a row and in a column of the rectangle
+--   report-cells               equal cells on the sheet give equal reports
+--   report-inside              a set on the sheet lies in the rectangle of its report
+--   report-least               any rectangle that holds the set holds that one
+--   report-none                the empty set has six zeros
 --   report-bit, report-below   the bits of the report's pattern, and that there is none beyond its rectangle
---   report-pattern        the cells of that pattern in that rectangle are the set
---   burst-report, SmallReport   of a burst: at most 16 cells, on the sheet, no larger than b1 by b2, the pattern of at most 16 digits
+--   report-pattern             the cells of that pattern in that rectangle are the set
+--   burst-report, SmallReport  of a burst: at most 16 cells, on the sheet, no larger than b1 by b2, the pattern of at most 16 digits
 --
 -- Assumes nothing.
-use mathlib.Core.Path.{◌≡◌, refl, sym, ap, ap₂, ◌∙◌}
+use mathlib.Core.Path.{◌≡◌, ap, ◌∙◌}
 use mathlib.Core.Bool.{Bool, true, false}
 use Prim.Native.Nat.{ℕ, zero, suc, ◌+◌, ◌-◌, ◌*◌, ◌/◌, ◌%◌, ◌^◌, ◌≤◌, ◌<◌}
-use native.Mathlib.Nat.{lt-suc_self, suc-mul, zero-mul, mul-zero, mul-le-mul, mul-le-mul_right, le_trans, mod-lt, div-lt_iff_lt-mul}
+use native.Mathlib.Nat.{zero-mul, mul-zero, mul-le-mul, le_trans, mod-lt, div-lt_iff_lt-mul}
 use native.Mathlib.Omega.{arith}
-use lib.Arith.{digits_lt, digits_div, digits_mod}
 use lib.Pow.{pow_mono}
-use Rattle.finite.specs.Search.{bit, number_of, any_below, count_below, first_of, past_of}
+use Rattle.finite.specs.Search.{bit, number_of, any_below, first_of, past_of}
 use Rattle.boxcode.specs.Code.{Code, Formed}
 use Rattle.boxcode.specs.Syndrome.{Cells, SameCells}
 use Rattle.boxcode.specs.Burst.{Inside, Burst, cell_count, box_cells, box_number}
 use Rattle.boxcode.specs.Reader.{Report, row_touched, column_touched, top_of, left_of, height_of, width_of, report_of, no_report, LiesIn}
 use Rattle.finite.proofs.Truth.{Truth, is_true, is_false, true-or-false, clash, not-true}
-use Rattle.finite.proofs.Search.{any_found, any_here, any_none, none_any, any-equal, first-is, first-none, first-equal, past-le, past-above}
+use Rattle.finite.proofs.Search.{any_found, any_here, none_any, any-equal, first-is, first-none, first-equal, past-le, past-above}
 use Rattle.finite.proofs.Search.{past-last, past-none, past_equal}
-use Rattle.finite.proofs.Count.{count-equal, count_none, count-rise, count-split, count-run}
 use Rattle.finite.proofs.Digits.{number-equal, number-below}
-use Rattle.boxcode.proofs.Cells.{cells-equal, cells-none, cells-some, box-count}
+use Rattle.boxcode.proofs.Cells.{cells-equal, cells-none, box-count}
 use Rattle.boxcode.proofs.Burst.{OnSheet}
 use Rattle.boxcode.proofs.Trial.{box-bit, box-number}
 

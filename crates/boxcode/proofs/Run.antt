@@ -1,10 +1,10 @@
 -- Laws of the two sums of a run of rows. They hold of any code, accepted or not:
 --
---   row-empty, column-empty     a run whose end is at or below its start has sums 0
---   row-past, column-past       rows past the sheet add nothing
---   row-joined, column-joined   the run a to b and then the run b to c are the run a to c
---   row-whole, column-whole     the run from row 0 to the last is the whole sheet
---   row-in-below, column-in-below   of a code that meets the rules of form, the sums have rv and rh bits
+--   row-empty, column-empty        a run whose end is at or below its start has sums 0
+--   row-past, column-past          rows past the sheet add nothing
+--   row-joined, column-joined      the run a to b and then the run b to c are the run a to c
+--   row-whole, column-whole        the run from row 0 to the last is the whole sheet
+--   row-in-below, column-in-below  of a code that meets the rules of form, the sums have rv and rh bits
 --
 -- Assumes nothing.
 use mathlib.Core.Path.{◌≡◌}

@@ -1,13 +1,13 @@
 -- The trial of all bursts, for any code of the right form:
 --
---   box-inside, box-cell     a pattern number gives cells inside its rectangle, one for each digit
---   box-bit, box-number      a set of cells has a number in a rectangle, one digit for each cell; and if it lies inside, the number gives the set
---   trial-rows, trial-columns   the rectangle of a trial lies on the sheet
+--   box-inside, box-cell       a pattern number gives cells inside its rectangle, one for each digit
+--   box-bit, box-number        a set of cells has a number in a rectangle, one digit for each cell; and if it lies inside, the number gives the set
+--   trial-rows, trial-columns  the rectangle of a trial lies on the sheet
 --   trial-burst, burst-trial   every trial of few cells is a burst, and every burst is a trial
---   BurstWith                a burst with two given sums
---   found                    where has_burst holds, burst_for is such a burst
---   has-burst                where there is such a burst, has_burst holds
---   burst-is                 under separation it is that burst
+--   BurstWith                  a burst with two given sums
+--   found                      where has_burst holds, burst_for is such a burst
+--   has-burst                  where there is such a burst, has_burst holds
+--   burst-is                   under separation it is that burst
 --
 -- Assumes nothing.
 use mathlib.Core.Path.{◌≡◌, sym, ap, ap₂, ◌∙◌}

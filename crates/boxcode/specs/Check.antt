@@ -1,16 +1,16 @@
 -- Check cells, the order of the data, and the sheet written from a string of data (document 01, "Sheet and data"; the order: 02 c).
 --
---   check_at         number t in sheet order is a check cell
---   check_index      the place in the check list of the check cell with number t
---   runs_down        the data of row i runs from the highest column down: in odd rows
---   data_column      the column of the cell at place j of row i, in the order in which data runs
---   data_order       from the place in the order in which data runs to the number in sheet order
---   data_size        k, the number of data bits
+--   check_at        number t in sheet order is a check cell
+--   check_index     the place in the check list of the check cell with number t
+--   runs_down       the data of row i runs from the highest column down: in odd rows
+--   data_column     the column of the cell at place j of row i, in the order in which data runs
+--   data_order      from the place in the order in which data runs to the number in sheet order
+--   data_size       k, the number of data bits
 --   rank            how many data cells come before the place t of the data's order
---   data_cell        the number in sheet order of the cell that holds data bit d
+--   data_cell       the number in sheet order of the cell that holds data bit d
 --   fill            the sheet that holds data x in its data cells and digit k of y in check cell k
 --   written         the sheet written from data x: with the first y that makes both sums 0
---   data_of          the data that a sheet holds
+--   data_of         the data that a sheet holds
 use Rattle.std.specs.Prelude.{ℕ, ◌+◌, ◌-◌, ◌*◌, ◌/◌, ◌%◌, ◌^◌, Bool, cond, not, ◌&&◌, eqb}
 use Rattle.finite.specs.Search.{bit, any_below, count_below, least}
 use Rattle.boxcode.specs.Code.{Code, cell_number}

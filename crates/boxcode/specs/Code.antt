@@ -2,10 +2,10 @@
 --
 --   Code            n1 rows (01: courses), n2 columns (01: needles), bursts (01: blots) of b1 rows by b2 columns and, where t is not 0,
 --                   of at most t cells (02 m), entries of rv and rh bits, the row table V, the column table H and the list of check cells
---   row_weight       the V entry of cell (i, j)
---   column_weight    the H entry of cell (i, j)
---   joint_weight     the joint entry, V + 2 to the power rv × H
---   check_joint      the joint entry of check cell number k
+--   row_weight      the V entry of cell (i, j)
+--   column_weight   the H entry of cell (i, j)
+--   joint_weight    the joint entry, V + 2 to the power rv × H
+--   check_joint     the joint entry of check cell number k
 --   Formed          the rules of form that checks 2 to 7 leave true of an accepted plan
 use Rattle.std.specs.Prelude.{ℕ, suc, ◌+◌, ◌*◌, ◌%◌, ◌^◌, ◌≤◌, ◌<◌}
 

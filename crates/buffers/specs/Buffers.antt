@@ -19,7 +19,7 @@
 --   scan_lengths      checks 1 to 11, 11 for the first scan and then for the second
 --   scans_unused      check 13, of the first scan and then of the second
 --   scans_checks      checks 1 to 11 and 13 of two scans: the plan is accepted, and both are of the right form
---   read_two_checks    the checks before reading two scans: 1 to 11 of both, 12, and 13 of both
+--   read_two_checks   the checks before reading two scans: 1 to 11 of both, 12, and 13 of both
 --   transpose_checks  the checks before turning a sheet into the other layout: 1 to 11 of the source, 11 of the target, 13 of the source
 --
 -- A string of k bits of data is stored as one row of k cells.

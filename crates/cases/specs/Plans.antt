@@ -1,7 +1,7 @@
 -- The small plans of document 01, as bytes.
 --
 --   le16, le32     a number in two and in four bytes, low byte first
---   plan_bytes      a plan from its numbers, its two tables and its check list, with the offsets and length by the rule and t = 0
+--   plan_bytes     a plan from its numbers, its two tables and its check list, with the offsets and length by the rule and t = 0
 --   S, T           the plans S and T, here with any tables and check list
 use Rattle.std.specs.Prelude.{ℕ, ◌+◌, ◌*◌, ◌/◌, ◌%◌, List, [], ◌∷◌, ◌++◌, length}
 

@@ -1,12 +1,12 @@
 -- The outcomes of asking where two scans first differ:
 --
---   difference-refused   where a check fails, the empty part
---   difference-none      where no row differs, the empty part
---   difference-row       else the row
+--   difference-refused    where a check fails, the empty part
+--   difference-none       where no row differs, the empty part
+--   difference-row        else the row
 --   same_none, byte-part  the same by the first byte that differs: no byte does; one does, and its row is the part
---   byte_small           the numbers that the code works with then are small
---   Inside, part-inside  whatever it is, the part starts at or before its end, and ends in the second scan
---   part_small           and at or before byte 45056
+--   byte_small            the numbers that the code works with then are small
+--   Inside, part-inside   whatever it is, the part starts at or before its end, and ends in the second scan
+--   part_small            and at or before byte 45056
 --
 -- Assumes nothing.
 use mathlib.Core.Path.{◌≡◌, refl, ap, ◌∙◌}

@@ -1,11 +1,11 @@
 -- The row where two scans of one film first differ (document 02, request g).
 --
---   row_differs c first second i     some cell of row i differs
---   differing_row c first second     the first row in which a cell differs, or n1 where none does
---   row_part n2 i                    the part that the bytes of row i are
---   no_part                          an empty part
+--   row_differs c first second i    some cell of row i differs
+--   differing_row c first second    the first row in which a cell differs, or n1 where none does
+--   row_part n2 i                   the part that the bytes of row i are
+--   no_part                         an empty part
 --   difference plan first second    the part of that row, where the checks pass and a row differs; else the empty part
---   part_of p s                      the bytes of s from the start of the part up to but not including its end
+--   part_of p s                     the bytes of s from the start of the part up to but not including its end
 use Rattle.std.specs.Prelude.{ℕ, ◌+◌, ◌-◌, ◌*◌, Bool, cond, ◌&&◌, List, eqb, ltb, take, drop}
 use Rattle.std.specs.Bool.{xor}
 use Rattle.finite.specs.Search.{any_below, least}

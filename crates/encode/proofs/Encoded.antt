@@ -1,12 +1,12 @@
 -- The bytes of a plan, read back:
 --
---   Placed, placed                        the places and the length of a header by the rule
---   encoded-length                        as many bytes as the rule says
---   plan-written                          what the four steps of writing leave
---   encoded-header                        the header is read back
---   encoded-row, encoded-column           entry k of each table is read back
---   encoded-check-row, encoded-check-column   pair k of the check list is read back
---   encoded-equal                         equal entries and pairs have equal bytes
+--   Placed, placed                           the places and the length of a header by the rule
+--   encoded-length                           as many bytes as the rule says
+--   plan-written                             what the four steps of writing leave
+--   encoded-header                           the header is read back
+--   encoded-row, encoded-column              entry k of each table is read back
+--   encoded-check-row, encoded-check-column  pair k of the check list is read back
+--   encoded-equal                            equal entries and pairs have equal bytes
 --
 -- Assumes nothing.
 use mathlib.Core.Path.{◌≡◌, sym, ap, ap₂, ◌∙◌}

@@ -1,15 +1,15 @@
 -- Small searches and counts over the numbers below a bound, and digits of a number.
 --
---   bit x k       digit k of x is 1
---   number_of n p  the number below 2 to the power n whose digit k is 1 where p k holds
---   within a m x  x is one of the m numbers from a on
---   any_below n p  p holds at some k below n
+--   bit x k          digit k of x is 1
+--   number_of n p    the number below 2 to the power n whose digit k is 1 where p k holds
+--   within a m x     x is one of the m numbers from a on
+--   any_below n p    p holds at some k below n
 --   count_below n p  at how many k below n p holds
---   few t n       n is at most t; where t is 0, any n is (02 m)
---   least n p     the first k below n at which p holds, or n where there is none
---   first_of n p   the first k below n at which p holds, or 0 where there is none
---   past_of n p    one more than the last k below n at which p holds, or 0 where there is none
---   place b a r   the number among the b numbers from a on whose remainder modulo b is r (r below b)
+--   few t n          n is at most t; where t is 0, any n is (02 m)
+--   least n p        the first k below n at which p holds, or n where there is none
+--   first_of n p     the first k below n at which p holds, or 0 where there is none
+--   past_of n p      one more than the last k below n at which p holds, or 0 where there is none
+--   place b a r      the number among the b numbers from a on whose remainder modulo b is r (r below b)
 use Rattle.std.specs.Prelude.{ℕ, zero, suc, ◌+◌, ◌-◌, ◌*◌, ◌/◌, ◌%◌, ◌^◌, Bool, false, cond, ◌&&◌, ◌||◌, leb, ltb, eqb}
 
 unfoldable pub bit : ℕ → ℕ → Bool

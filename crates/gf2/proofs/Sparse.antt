@@ -14,7 +14,7 @@ use native.Mathlib.Decide.{ℕ_discrete}
 use native.Mathlib.Omega.{arith}
 use lib.Dec.{eqb, leb, ltb}
 use lib.Pow.{pow_pos}
-use borrow.Author.Tests.{eqb-true, eqb-false, eq-eqb, ne_eqb, leb-true, le-leb, ltb-true, lt-ltb}
+use borrow.Author.Tests.{eqb-true, eq-eqb, ne_eqb, leb-true, le-leb, ltb-true, lt-ltb}
 use Rattle.finite.specs.Search.{bit, number_of, any_below, count_below}
 use Rattle.finite.proofs.Truth.{Truth, is_true, is_false, true-or-false, clash, both, and_both, and_left, and_right, not-true, same_truth}
 use Rattle.finite.proofs.Search.{any_found, any_here, any_none, none_any}

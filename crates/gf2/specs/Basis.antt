@@ -1,6 +1,6 @@
 -- A basis by leading digit: a list of 64 words, of which word k is 0 or has digit k as its leading digit.
 --
---   empty_words        the words of the empty basis
+--   empty_words       the words of the empty basis
 --   top v             the place of the leading digit of v
 --   lowered b v       v with the word at its leading digit taken off
 --   reduced b v       what is left of v when that is done as long as it makes v smaller

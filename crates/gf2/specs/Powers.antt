@@ -1,14 +1,14 @@
 -- Tables of powers: each word is z times the one before, modulo one polynomial (02, request a: "entry k is z to the power k modulo
 -- that polynomial"). A polynomial is a number, digit i for the power i.
 --
---   times_z p x          z times x modulo p: twice x, with p taken off where that makes it smaller
+--   times_z p x         z times x modulo p: twice x, with p taken off where that makes it smaller
 --   polynomial d low    the polynomial of degree d whose coefficients below that are the digits of low
 --   power p k           z to the power k modulo p
---   powers_from p x n    a table of n words: the first is x, and each after it is z times the one before, modulo p
+--   powers_from p x n   a table of n words: the first is x, and each after it is z times the one before, modulo p
 --   PowersIn p n ws vs  the words vs are as many as ws, and the first n of them are the powers of z from 1 on
---   first_break p ws     the first place k after which word k + 1 is not z times word k, or the place of the last word
---   modulus_of ws        a polynomial by which ws may be powers: what is taken off after the first break in doubling; 1 where there is none
---   are_powers ws        that polynomial has constant term 1, and each word is z times the one before
+--   first_break p ws    the first place k after which word k + 1 is not z times word k, or the place of the last word
+--   modulus_of ws       a polynomial by which ws may be powers: what is taken off after the first break in doubling; 1 where there is none
+--   are_powers ws       that polynomial has constant term 1, and each word is z times the one before
 --   Digits32 ws         the words have at most 32 digits
 use Rattle.std.specs.Prelude.{ℕ, zero, suc, ◌+◌, ◌-◌, ◌*◌, ◌%◌, ◌^◌, ◌<◌, min, ◌≡◌, Bool, ◌&&◌, not, cond, List, [], ◌∷◌, eqb, leb, length, get_or}
 use Rattle.finite.specs.Search.{least}

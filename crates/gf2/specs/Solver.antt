@@ -4,7 +4,7 @@
 --   solution vs target    the number of the combination that makes the target, or Outside where there is none
 --   combined b c v y      y and the combinations c of the words b that reducing v takes off
 --   solved b c target     the solution by words b and their combinations c
---   solver_of vs           the words of a basis of vs with the combination of vs that makes each; it stops at the first
+--   solver_of vs          the words of a basis of vs with the combination of vs that makes each; it stops at the first
 --                         vector that those before it span, and after 64
 --
 -- The law that joins them, `solver-solves`, is in proofs/Solving.antt.

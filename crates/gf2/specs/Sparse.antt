@@ -2,11 +2,11 @@
 --
 --   Apart t n member member' f   no two different sets of at most t places below n, one of members and one of members', have the same sum
 --   IndependentUpTo t n member f no nonempty set of at most t members below n has exclusive-or 0
---   set_of t n member x           the places whose digit in x is 1 are at most t of the members below n
---   apart, free_up_to              the two, computed: over all sets, each by its number
+--   set_of t n member x          the places whose digit in x is 1 are at most t of the members below n
+--   apart, free_up_to            the two, computed: over all sets, each by its number
 --
 -- Equal values at different places are different members, as in Independence.
-use Rattle.std.specs.Prelude.{ℕ, ◌^◌, ◌≤◌, ◌<◌, ◌≡◌, Bool, true, false, ◌&&◌, not, eqb, leb}
+use Rattle.std.specs.Prelude.{ℕ, ◌^◌, ◌≤◌, ◌<◌, ◌≡◌, Bool, false, ◌&&◌, not, eqb, leb}
 use Rattle.finite.specs.Search.{bit, any_below, count_below}
 use Rattle.gf2.specs.Sum.{chosen_sum}
 use Rattle.gf2.specs.Independence.{Within}

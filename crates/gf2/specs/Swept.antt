@@ -1,7 +1,7 @@
 -- Vectors taken off a number one after another, each where that makes it smaller.
 --
 --   swept ws v       what is left of v after the words ws, the first first
---   even_up n         n, or n + 1 where n is odd
+--   even_up n        n, or n + 1 where n is odd
 --   kept ws ms       the words ws, and each of ms as the words before it leave it
 --   KeptOf ms r      what the function `keep` gives for ms: how many come before the first that those before it span, and their words
 --

@@ -1,8 +1,8 @@
 -- Lists of numbers as vectors over the field of two elements.
 --
 --   spans vs x          x is the exclusive-or of some of vs
---   taken_from vs ms     how many of ms come before the first that is spanned by vs and those before it
---   free_from vs ms      none of ms is spanned by vs and those before it
+--   taken_from vs ms    how many of ms come before the first that is spanned by vs and those before it
+--   free_from vs ms     none of ms is spanned by vs and those before it
 --   listed n member f   the values at the members below n, in rising order
 --   run f a n           the n values of f from place a on
 --   part a b t          the elements of a table at the places from a up to b, b left out, as the code's `&t[a..b]`

@@ -1,7 +1,7 @@
 -- The rule of the house table, carried to each entry.
 --
---   house-entry           entry k is z to the power k, modulo the house polynomial
---   house-first, house-next   the first entry is 1, and each after it is z times the one before
+--   house-entry              entry k is z to the power k, modulo the house polynomial
+--   house-first, house-next  the first entry is 1, and each after it is z times the one before
 --
 -- Assumes nothing.
 use mathlib.Core.Path.{◌≡◌, sym, ap, ◌∙◌}

@@ -1,9 +1,9 @@
 -- The house plan (document 02, request d): "a plan for 3 by 3 blots, 512 courses and 698 needles".
 --
---   house_with rv v    the eight numbers of a plan of this size, with the house polynomial for its columns and any polynomial for its rows:
+--   house_with rv v   the eight numbers of a plan of this size, with the house polynomial for its columns and any polynomial for its rows:
 --                     degree rv, and the coefficients v below it
---   house_parameters   the house numbers: degree 22 and 0x39f0d for the rows
---   house_bytes        how many bytes the house plan has
+--   house_parameters  the house numbers: degree 22 and 0x39f0d for the rows
+--   house_bytes       how many bytes the house plan has
 use Rattle.std.specs.Prelude.{ℕ}
 use Rattle.maker.specs.declared.parameters.Parameters.{Parameters}
 use Rattle.house.specs.House.{house_degree, house_low}

@@ -14,8 +14,8 @@
 --   transposed-form, transposed-cell, transposed-back   the other layout has the same cells, and turning back is nothing
 --
 -- Assumes nothing.
-use mathlib.Core.Path.{◌≡◌, refl, sym, ap, ◌∙◌}
-use mathlib.Core.Bool.{Bool, true, false, xor, ◌&&◌}
+use mathlib.Core.Path.{◌≡◌, sym, ap, ◌∙◌}
+use mathlib.Core.Bool.{Bool, false, xor, ◌&&◌}
 use mathlib.Core.List.{List}
 use Prim.Native.Nat.{ℕ, ◌*◌, ◌≤◌, ◌<◌}
 use native.Mathlib.Nat.{mul-le-mul}
@@ -23,12 +23,12 @@ use native.Mathlib.Omega.{arith}
 use lib.Dec.{eqb}
 use lib.ListN.{length, replicate}
 use Rattle.finite.proofs.Truth.{and_comm}
-use Rattle.layout.specs.Cells.{row_bytes, sheet_bytes, RightForm}
+use Rattle.layout.specs.Cells.{row_bytes, sheet_bytes}
 use Rattle.layout.specs.Stored.{Sizes, other_than, size_in, cell_in, FormIn, bytes_in, first_unused_in, turned_in, transposed}
 use Rattle.layout.specs.declared.stored.Layout.{Layout}
 use Rattle.layout.specs.declared.stored.Layout.TheVariants.{ByRow, ByColumn}
-use Rattle.layout.proofs.Form.{same_bytes, bytes-form, bytes-cell, bytes-equal, unused-form, form-unused, zeros-bytes}
-use Rattle.layout.proofs.Turned.{turned-if-form, turned-if-cell, turned-if-length, turned-if-bytes}
+use Rattle.layout.proofs.Form.{same_bytes, bytes-form, bytes-cell, unused-form, form-unused, zeros-bytes}
+use Rattle.layout.proofs.Turned.{turned-if-form, turned-if-cell, turned-if-length}
 
 pub record Laws (lay : Layout) (n1 n2 : ℕ) : Type 0 where
   pub form : (p : ℕ → ℕ → Bool) → FormIn lay n1 n2 (bytes_in lay n1 n2 p)

@@ -1,10 +1,10 @@
 -- Where unused bits can stand: in the last byte of a row only. m is the number of bytes of a row.
 --
---   last-inside   a row's last byte stands in the sheet
---   last-used     how many bits of a row's last byte hold cells
---   last-bad, last-good   so it has an unused bit 1 exactly from a power of two on
---   row_before    where no byte of the first i rows has an unused bit 1, none has before the last byte of row i
---   row_done      and none has in the first i + 1 rows, if that last byte has none
+--   last-inside          a row's last byte stands in the sheet
+--   last-used            how many bits of a row's last byte hold cells
+--   last-bad, last-good  so it has an unused bit 1 exactly from a power of two on
+--   row_before           where no byte of the first i rows has an unused bit 1, none has before the last byte of row i
+--   row_done             and none has in the first i + 1 rows, if that last byte has none
 --
 -- Assumes nothing.
 use mathlib.Core.Path.{◌≡◌, sym, ap, ◌∙◌}

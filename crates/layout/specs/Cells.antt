@@ -1,17 +1,17 @@
 -- Cells in bytes (document 01, "Sheet and data"): the one place that knows how a sheet is stored.
 --
---   row_bytes n2          the bytes of one row of n2 cells: n2 / 8, rounded up
---   sheet_bytes n1 n2     the bytes of n1 rows
---   byte_of n2 i j        the byte that holds cell (i, j)
---   cell_of n2 s i j      cell (i, j) of the bytes s: column 0 is the lowest bit of a row's first byte
---   used_bits n2 k        how many bits of byte k hold cells
---   unused_at n2 s k      byte k has an unused bit that is 1
---   first_unused          the first such byte, or the number of bytes
---   RightForm n1 n2 s    s has n1 rows of bytes, and its unused bits are 0 (01: "of the right form")
---   bytes_of n1 n2 p      the bytes of the right form with the cells p
---   turned n2 s i j      the bytes s with cell (i, j) turned over
---   turned_if b n2 s i j  the same if b holds, else s
---   byte_turned b n2 i j k x   what byte k, of the value x, becomes by that
+--   row_bytes n2              the bytes of one row of n2 cells: n2 / 8, rounded up
+--   sheet_bytes n1 n2         the bytes of n1 rows
+--   byte_of n2 i j            the byte that holds cell (i, j)
+--   cell_of n2 s i j          cell (i, j) of the bytes s: column 0 is the lowest bit of a row's first byte
+--   used_bits n2 k            how many bits of byte k hold cells
+--   unused_at n2 s k          byte k has an unused bit that is 1
+--   first_unused              the first such byte, or the number of bytes
+--   RightForm n1 n2 s         s has n1 rows of bytes, and its unused bits are 0 (01: "of the right form")
+--   bytes_of n1 n2 p          the bytes of the right form with the cells p
+--   turned n2 s i j           the bytes s with cell (i, j) turned over
+--   turned_if b n2 s i j      the same if b holds, else s
+--   byte_turned b n2 i j k x  what byte k, of the value x, becomes by that
 --
 -- A string of k bits of data is stored as one row of k cells.
 use Rattle.std.specs.Prelude.{ℕ, zero, suc, ◌+◌, ◌-◌, ◌*◌, ◌/◌, ◌%◌, ◌^◌, ◌<◌, min, ◌≡◌, Bool, cond, ◌&&◌, List, [], ◌∷◌, ◌++◌, leb, eqb, length, get_or, set}

@@ -1,7 +1,7 @@
 -- Where two strings of bytes of one length differ.
 --
---   differ_at s t k       byte k of s is not byte k of t
---   first_different s t   the first byte at which s and t differ, or their length
+--   differ_at s t k      byte k of s is not byte k of t
+--   first_different s t  the first byte at which s and t differ, or their length
 --   agree s t            no byte differs
 --   AgreeUpTo s t k      s has k bytes, and none of these differs
 use Rattle.std.specs.Prelude.{ℕ, ◌≤◌, ◌<◌, ◌≡◌, Bool, false, not, List, eqb, length, get_or}

@@ -1,9 +1,9 @@
 -- Numbers in a list of bytes, low byte first.
 --
---   u16_at s o, u32_at s o   the number of 16 and of 32 bits at place o (a byte past the end counts 0)
---   Number16, Number32     what the functions that read them promise: the value, and that it fits its bits
+--   u16_at s o, u32_at s o  the number of 16 and of 32 bits at place o (a byte past the end counts 0)
+--   Number16, Number32      what the functions that read them promise: the value, and that it fits its bits
 --   low_bytes n x           n bytes of x, low byte first
---   overwritten s o xs     the bytes s with xs from place o on
+--   overwritten s o xs      the bytes s with xs from place o on
 use Rattle.std.specs.Prelude.{ℕ, zero, suc, ◌+◌, ◌*◌, ◌/◌, ◌%◌, ◌<◌, ◌≡◌, List, [], ◌∷◌, get_or, set}
 
 unfoldable pub u16_at : List ℕ → ℕ → ℕ

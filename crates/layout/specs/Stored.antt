@@ -2,15 +2,15 @@
 -- columns it is, byte for byte, a sheet by rows with rows and columns exchanged: each column has n1 / 8 bytes, rounded up, row 0
 -- lowest, unused bits 0. What Cells says of rows is said here of either layout.
 --
---   Sizes n1 n2             a sheet is at most this large
---   other_than lay           the layout that it is not
---   size_in lay n1 n2        the bytes of a sheet
---   cell_in lay n1 n2 s      the cells of the bytes s
---   FormIn lay n1 n2 s      the bytes s are of the right form
---   bytes_in lay n1 n2 p     the bytes of the right form with the cells p
---   first_unused_in lay n1 n2 s   the first byte with an unused bit that is 1, or the number of bytes
+--   Sizes n1 n2                  a sheet is at most this large
+--   other_than lay               the layout that it is not
+--   size_in lay n1 n2            the bytes of a sheet
+--   cell_in lay n1 n2 s          the cells of the bytes s
+--   FormIn lay n1 n2 s           the bytes s are of the right form
+--   bytes_in lay n1 n2 p         the bytes of the right form with the cells p
+--   first_unused_in lay n1 n2 s  the first byte with an unused bit that is 1, or the number of bytes
 --   turned_in b lay n1 n2 s i j  the bytes s with cell (i, j) turned over if b holds
---   transposed lay n1 n2 s  the bytes s of this layout, in the other one
+--   transposed lay n1 n2 s       the bytes s of this layout, in the other one
 use Rattle.std.specs.Prelude.{ℕ, ◌≤◌, Bool, List}
 use Rattle.layout.specs.Cells.{sheet_bytes, cell_of, first_unused, RightForm, bytes_of, turned_if}
 use Rattle.layout.specs.declared.stored.Layout.{Layout}

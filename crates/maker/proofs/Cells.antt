@@ -1,11 +1,11 @@
 -- Cells, their joint entries, and the next cell, taken or not.
 --
---   cell-joint        the joint entry of the cell in row i and column j
---   taken_step        one cell more
---   taken-most        at most as many as are needed
---   taken_more, taken-end   there is more to ask and to take, or not
---   empty-size        the words of no vectors are 64
---   next_row          the number of the first cell of the next row
+--   cell-joint             the joint entry of the cell in row i and column j
+--   taken_step             one cell more
+--   taken-most             at most as many as are needed
+--   taken_more, taken-end  there is more to ask and to take, or not
+--   empty-size             the words of no vectors are 64
+--   next_row               the number of the first cell of the next row
 --
 -- Assumes nothing.
 use mathlib.Core.Path.{◌≡◌, sym, ap, ap₂, ◌∙◌}

@@ -11,7 +11,7 @@
 -- Assumes nothing.
 use mathlib.Core.Path.{◌≡◌, refl, sym, ap, ap₂, ◌∙◌}
 use mathlib.Core.List.{List}
-use Prim.Native.Nat.{ℕ, ◌+◌, ◌*◌, ◌/◌, ◌%◌, ◌^◌, ◌≤◌, ◌<◌}
+use Prim.Native.Nat.{ℕ, ◌+◌, ◌*◌, ◌/◌, ◌%◌, ◌^◌, ◌<◌}
 use native.Mathlib.Nat.{mod-lt, div-lt_iff_lt-mul}
 use native.Mathlib.Omega.{arith}
 use borrow.Author.Tests.{ltb-false}
@@ -26,7 +26,7 @@ use Rattle.gf2.proofs.Taking.{taken-equal}
 use Rattle.boxcode.specs.Code.{row_weight, column_weight, joint_weight}
 use Rattle.plan.specs.declared.header.Header.{Header}
 use Rattle.plan.specs.declared.table.Table.TheVariants.{Rows, Columns}
-use Rattle.plan.specs.Table.{entries_of, word_at}
+use Rattle.plan.specs.Table.{word_at}
 use Rattle.plan.specs.Verdict.{refusal, verdict_if}
 use Rattle.plan.specs.Header.{Small, ruled}
 use Rattle.plan.specs.Bytes.{code_from}

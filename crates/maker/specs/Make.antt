@@ -1,15 +1,15 @@
 -- Making a plan (document 02, request a): "plans for beds of their own, made from two binary polynomials".
 --
---   numbers_of g           the seven numbers of a header that are given, as a header with its places still 0
---   header_for g           the header of the made plan: these numbers, and the places and the length by the rule
+--   numbers_of g          the seven numbers of a header that are given, as a header with its places still 0
+--   header_for g          the header of the made plan: these numbers, and the places and the length by the rule
 --   row_table, column_table the two tables: entry k is z to the power k modulo that polynomial
---   taken_cells h v w      the check cells: taken in sheet order, each if its joint entry is no exclusive-or of those taken; rv + rh at most
---   made_code h v w        the code with these tables and these check cells
---   bad_polynomial d low   a polynomial has constant term 0 or a coefficient at or above its degree
---   polynomials_verdict    check 15, of both polynomials
---   taken_verdict          check 16: fewer than rv + rh cells could be taken
---   given_checks           checks 2, 3, 4, 23, 5 and 15, which look at no table
---   make_checks            checks 2, 3, 4, 23, 5, 15, 8, 9, 16, in this order
+--   taken_cells h v w     the check cells: taken in sheet order, each if its joint entry is no exclusive-or of those taken; rv + rh at most
+--   made_code h v w       the code with these tables and these check cells
+--   bad_polynomial d low  a polynomial has constant term 0 or a coefficient at or above its degree
+--   polynomials_verdict   check 15, of both polynomials
+--   taken_verdict         check 16: fewer than rv + rh cells could be taken
+--   given_checks          checks 2, 3, 4, 23, 5 and 15, which look at no table
+--   make_checks           checks 2, 3, 4, 23, 5, 15, 8, 9, 16, in this order
 --   Made, made            what a call leaves: its answer and the bytes of the plan
 --   outcome v new old     the answer v, with the new bytes where it is 0 and else with the old
 --   make g plan           the outcome of making a plan from g into the buffer plan

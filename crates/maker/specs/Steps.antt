@@ -1,7 +1,7 @@
 -- The steps of making a plan, as the code takes them.
 --
---   Degrees g                   both polynomials are good: checks 4 and 15 hold
---   PowerTables g h rows columns   the words hold the two tables of powers
+--   Degrees g                     both polynomials are good: checks 4 and 15 hold
+--   PowerTables g h rows columns  the words hold the two tables of powers
 use Rattle.std.specs.Prelude.{ℕ, ◌^◌, ◌≤◌, ◌<◌, ◌≡◌, List, length}
 use Rattle.plan.specs.declared.header.Header.{Header}
 use Rattle.plan.specs.declared.table.Table.TheVariants.{Rows, Columns}

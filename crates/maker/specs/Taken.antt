@@ -1,9 +1,9 @@
 -- The check cells that are taken, as the code holds them.
 --
---   bare_code h v w     the code with the numbers of a header and two tables, its check list empty
---   cell_joint c t      the joint entry of the cell with number t in sheet order
---   Tables h rows columns   the words hold two tables: room for all entries, each of at most 32 digits
---   HeldTo h rows columns n t   t holds the first rv + rh cells that are taken among the first n
+--   bare_code h v w            the code with the numbers of a header and two tables, its check list empty
+--   cell_joint c t             the joint entry of the cell with number t in sheet order
+--   Tables h rows columns      the words hold two tables: room for all entries, each of at most 32 digits
+--   HeldTo h rows columns n t  t holds the first rv + rh cells that are taken among the first n
 use Rattle.std.specs.Prelude.{ℕ, ◌+◌, ◌/◌, ◌%◌, ◌≡◌, List, length}
 use Rattle.gf2.specs.Taking.{TakenIn}
 use Rattle.boxcode.specs.Code.{Code, joint_weight}

@@ -1,11 +1,11 @@
 -- Which burst is found. The first pattern with the V sum decides, since no other has it.
 --
---   strip-burst     a strip on which the pattern has the H sum gives the burst
---   strip-none      if there is no such strip, there is no burst
---   window-none     if no window has a pattern with the V sum, there is no burst
---   zero-burst, zero-none   a V sum of 0: the empty burst where the H sum is 0 too, else none
---   strips-decide   what the strips answer for the first pattern found is the answer
---   search-decides  so is what the search over the windows answers
+--   strip-burst            a strip on which the pattern has the H sum gives the burst
+--   strip-none             if there is no such strip, there is no burst
+--   window-none            if no window has a pattern with the V sum, there is no burst
+--   zero-burst, zero-none  a V sum of 0: the empty burst where the H sum is 0 too, else none
+--   strips-decide          what the strips answer for the first pattern found is the answer
+--   search-decides         so is what the search over the windows answers
 --
 -- Assumes nothing.
 use mathlib.Core.Path.{◌≡◌, refl, sym, ◌∙◌}

@@ -1,8 +1,8 @@
 -- Fits of few entries:
 --
---   none-fits, one-fits, two-fit   the pattern of no entry, of one and of two
---   pair_found, pair-missed, pairs-more   of two entries, by their last
---   nothing-fits                   where no one and no two have the sum, no choice of few has
+--   none-fits, one-fits, two-fit         the pattern of no entry, of one and of two
+--   pair_found, pair-missed, pairs-more  of two entries, by their last
+--   nothing-fits                         where no one and no two have the sum, no choice of few has
 --
 -- Assumes nothing.
 use mathlib.Core.Path.{◌≡◌, refl, sym, ap, ap₂, ◌∙◌}

@@ -1,7 +1,7 @@
 -- A pattern of a window, laid on a strip: its cells, its H sum, and its number by columns.
 --
---   laid_cells             the cells of pattern x of the window at row i on the strip at column a
---   laid_cell-bit             such a cell is the digit of its row and of the remainder of its column
+--   laid_cells            the cells of pattern x of the window at row i on the strip at column a
+--   laid_cell-bit         such a cell is the digit of its row and of the remainder of its column
 --   box-sum               the sum of a set of cells in a rectangle, over any weight, row by row
 --   laid-sum              the H sum of these cells is `laid_sum`
 --   laid-entries          and needs only the entries of the table

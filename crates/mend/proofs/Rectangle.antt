@@ -1,10 +1,10 @@
 -- The report of a pattern number in a rectangle is that of its cells.
 --
---   box-report              the report of the cells of a pattern number is `box_report`
---   found-report            so that is the report of a burst that was found
---   line_row, line-column   the lines of the rectangle, as the code tries them, are its rows and columns
---   first_past              the first line with a cell is not after the last, and neither is past the lines
---   lines_none, lines-report   `box_report` from its numbers
+--   box-report                the report of the cells of a pattern number is `box_report`
+--   found-report              so that is the report of a burst that was found
+--   line_row, line-column     the lines of the rectangle, as the code tries them, are its rows and columns
+--   first_past                the first line with a cell is not after the last, and neither is past the lines
+--   lines_none, lines-report  `box_report` from its numbers
 --
 -- Assumes nothing.
 use mathlib.Core.Path.{◌≡◌, refl, sym, ap, ap₂, ◌∙◌}

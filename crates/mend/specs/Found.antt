@@ -1,8 +1,8 @@
 -- What the search for a burst answers, and what each of its two cases is in document 01.
 --
---   found_verdict       the number and the places: 0 at 0, 0 for a burst, 14 at 0, 0 for none
---   found_report        the six numbers: those of the burst's cells, or six zeros
---   first_burst c v s   the first burst by trial whose V sum is v and whose H sum is s, or Nothing
+--   found_verdict      the number and the places: 0 at 0, 0 for a burst, 14 at 0, 0 for none
+--   found_report       the six numbers: those of the burst's cells, or six zeros
+--   first_burst c v s  the first burst by trial whose V sum is v and whose H sum is s, or Nothing
 --   IsBurst            a pattern number in a rectangle on the sheet has the cells of that burst
 --   BurstOrNone        an answer of the search is that burst, or there is none
 --   FoundFor c v s r   r has the number, the places and the six numbers of the first burst by trial, and its cells

@@ -2,7 +2,7 @@
 --
 --   after_fit           a pattern goes on to the strips, which decide; where a window has none, the rest of the search does
 --   search_from .. i m  the answer of the m windows from row i on, by a table of H entries; Nothing after the last, which is
---                      number 14 (found_verdict)
+--                       number 14 (found_verdict)
 use Rattle.std.specs.Prelude.{ℕ, zero, suc, List}
 use Rattle.plan.specs.declared.header.Header.{Header}
 use Rattle.plan.specs.Bytes.{code_with}

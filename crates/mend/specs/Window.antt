@@ -1,11 +1,11 @@
 -- Patterns of a window of b1 consecutive rows, and what the window fit answers.
 --
---   window_entries c i      the V entries of the window at row i, b1 × b2 of them
+--   window_entries c i     the V entries of the window at row i, b1 × b2 of them
 --   Gathered c i words     an array that begins with them
---   window_sum c i m        the V sum of a choice m among them. Pattern number x is the choice `bit x`: digit r × b2 + t stands
+--   window_sum c i m       the V sum of a choice m among them. Pattern number x is the choice `bit x`: digit r × b2 + t stands
 --                          for row i + r and remainder t
---   makes_sum c i v x       pattern number x has the V sum v, and few cells where t is not 0
---   first_fit c i v         the first pattern by number that has, or Nothing
+--   makes_sum c i v x      pattern number x has the V sum v, and few cells where t is not 0
+--   first_fit c i v        the first pattern by number that has, or Nothing
 --   PairFit f n v r        of n entries: r is a pattern of two of them with the sum v, or there is none
 --   FewFit t f n v r       of n entries: r is a pattern of at most t of them with the sum v, or there is none
 use Rattle.std.specs.Prelude.{ℕ, ◌+◌, ◌*◌, ◌^◌, ◌≤◌, ◌<◌, ◌≡◌, Bool, true, cond, ◌&&◌, List, eqb, ltb, length, take}

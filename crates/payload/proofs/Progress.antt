@@ -3,8 +3,8 @@
 --   shown u f t     of the cells f those whose number u is below t, and no others
 --   shown-first, shown-next, shown-past, shown-all
 --                   none; one cell more; numbers at which all is light passed over; all
---   put_to c x t     the first t cells of the filled sheet, and no others
---   taken_to c s t   the data that stands in the first t cells, and no other
+--   put_to c x t    the first t cells of the filled sheet, and no others
+--   taken_to c s t  the data that stands in the first t cells, and no other
 --   put_first, put_next, put-checks, put-run, put_step, put_all
 --                   nothing is put; a data cell more; check cells passed over; a run more; up to the cursor's next stand; the filled sheet
 --   take-first, take_next, take-checks, take-run, take_step, take_all

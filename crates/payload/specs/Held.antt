@@ -1,7 +1,7 @@
 -- The data bit that a cell holds, turned over.
 --
---   bit_turned c i j bits   a string of data with the bit that cell (i, j) holds turned over; a check cell holds none
---   bit_turned_if b c i j bits   the same if b holds, else the data as it was
+--   bit_turned c i j bits       a string of data with the bit that cell (i, j) holds turned over; a check cell holds none
+--   bit_turned_if b c i j bits  the same if b holds, else the data as it was
 use Rattle.std.specs.Prelude.{ℕ, Bool, cond, List}
 use Rattle.layout.specs.Cells.{turned}
 use Rattle.boxcode.specs.Code.{Code, cell_number}

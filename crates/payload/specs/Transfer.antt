@@ -1,8 +1,8 @@
 -- Data put into the cells of a run and taken out of them, cell by cell.
 --
---   put_run, take_run   the sheet after the first cells of the run at a cursor have their data bits, and the data after
---                     they have given them; before, these cells are light, and these bits 0
---   Reaches           the cells and bits of a run stand in buffers of these lengths
+--   put_run, take_run  the sheet after the first cells of the run at a cursor have their data bits, and the data after
+--                      they have given them; before, these cells are light, and these bits 0
+--   Reaches            the cells and bits of a run stand in buffers of these lengths
 use Rattle.std.specs.Prelude.{ℕ, zero, suc, ◌+◌, ◌≤◌, ◌<◌, ◌≡◌, List}
 use Rattle.layout.specs.Cells.{byte_of, cell_of, turned_if}
 use Rattle.layout.specs.Stored.{Sizes, size_in, cell_in, turned_in}

@@ -1,10 +1,10 @@
 -- Checks 1 to 7 pass exactly where the rules of form hold.
 --
---   at-zero, zero-at       a search that names no place: it ran to its end
---   header-passes          a framed plan passes checks 1 to 5 and 23 (framed, in Framing.antt, is the other way)
---   entries_below, below-entries   check 6 passes exactly where every entry has its bits
---   pairs-right, right-pairs       check 7 passes exactly where the check list is on the sheet and rises
---   formed                 where checks 1 to 7 pass, the code is formed; form-passes is the other way
+--   at-zero, zero-at              a search that names no place: it ran to its end
+--   header-passes                 a framed plan passes checks 1 to 5 and 23 (framed, in Framing.antt, is the other way)
+--   entries_below, below-entries  check 6 passes exactly where every entry has its bits
+--   pairs-right, right-pairs      check 7 passes exactly where the check list is on the sheet and rises
+--   formed                        where checks 1 to 7 pass, the code is formed; form-passes is the other way
 --
 -- Assumes nothing.
 use mathlib.Core.Path.{◌≡◌, refl, ap, ◌∙◌}

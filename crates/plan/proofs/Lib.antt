@@ -1,4 +1,4 @@
--- The laws of the definitions of specs/, and the walks of the functions over a view.
+-- The laws of the definitions of specs/.
 pub mod Sequence
 pub mod Framing
 pub mod Forming

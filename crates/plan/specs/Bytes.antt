@@ -1,11 +1,11 @@
 -- The code that a plan's bytes stand for (document 01, "Plan bytes").
 --
---   row_entry_at, column_entry_at        the entry at a position of the row table V and of the column table H
---   check_row_at, check_column_at        row and column of a pair of the check list
---   check_cell_at                      the pair, as the code has it
+--   row_entry_at, column_entry_at    the entry at a position of the row table V and of the column table H
+--   check_row_at, check_column_at    row and column of a pair of the check list
+--   check_cell_at                    the pair, as the code has it
 --   Weight, CheckCell                what is promised of a cell's entry and of a pair
---   code_from                         the code with the numbers of a header, and these tables and this check list
---   code_with, code_of                 all of a plan, as the code's mathematics has it
+--   code_from                        the code with the numbers of a header, and these tables and this check list
+--   code_with, code_of               all of a plan, as the code's mathematics has it
 use Rattle.std.specs.Prelude.{ℕ, ◌+◌, ◌*◌, ◌<◌, ◌≡◌, List}
 use Rattle.layout.specs.Number.{u16_at, u32_at}
 use Rattle.boxcode.specs.Code.{Code}

@@ -1,8 +1,8 @@
 -- The two tables of a plan: V and H in document 01.
 --
---   entries_of h t           how many entries a table has
---   entry_of s h t k         entry k of a table of the plan s
---   word_at words k          word k of an unpacked table
+--   entries_of h t          how many entries a table has
+--   entry_of s h t k        entry k of a table of the plan s
+--   word_at words k         word k of an unpacked table
 --   EntriesIn s h t words   word k is entry k of a table, for each k below its size
 --   Unpacked s h words      the same of the column table (01: "the needle table is unpacked once into 2,792 words")
 use Rattle.std.specs.Prelude.{ℕ, ◌*◌, ◌<◌, ◌≡◌, List, length, get_or}

@@ -2,8 +2,8 @@
 --
 --   accepted        no check failed
 --   refusal n p q   check n failed at the places p, q
---   verdict_if       the refusal where the check fails, else accepted
---   v or_else w      v if it refuses, else w: the first refusal, in the order in which the checks run
+--   verdict_if      the refusal where the check fails, else accepted
+--   v or_else w     v if it refuses, else w: the first refusal, in the order in which the checks run
 use Rattle.std.specs.Prelude.{ℕ, Bool, cond, eqb}
 use Rattle.plan.specs.declared.verdict.Verdict.{Verdict}
 

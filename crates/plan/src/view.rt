@@ -58,7 +58,7 @@ pub fn check_cell<'a>(v: View<'a>, k: usize) -> Cell
     check_cell_of(v.plan, v.header, k)
 }
 
-// The work of `row_entry`, on the bytes and the numbers: the checker covers this, and not a function over a view.
+// The work of `row_entry`, on the bytes and the numbers.
 fn row_entry_of(plan: &[u8], h: Header, k: usize) -> u64
     requires framed { Framed plan.now h }
     requires k_bound { k < h.n1 * h.b2 }

@@ -1,11 +1,11 @@
 -- The data bit of a cell, from the data cells before it in sheet order: the one file of this crate that knows how the data's order runs.
 --
---   bit-down, bit_up   data_bit in an odd row, where the data runs down, and in an even row
---   before-row   the data cells before a cell: those before its row, and those of its row
---   row-rank     the same in the data's order
---   rows-rank    the data cells before a row are the same in both orders
---   rank_up      where the data of a row runs up, the data bit of a cell is the number of data cells before it
---   rank_down    where it runs down, the bit is as far from the end of the row's bits as that number is from their beginning
+--   bit-down, bit_up  data_bit in an odd row, where the data runs down, and in an even row
+--   before-row        the data cells before a cell: those before its row, and those of its row
+--   row-rank          the same in the data's order
+--   rows-rank         the data cells before a row are the same in both orders
+--   rank_up           where the data of a row runs up, the data bit of a cell is the number of data cells before it
+--   rank_down         where it runs down, the bit is as far from the end of the row's bits as that number is from their beginning
 --
 -- Assumes nothing.
 use mathlib.Core.Path.{◌≡◌, refl, sym, ap, ap₂, ◌∙◌}

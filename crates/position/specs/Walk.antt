@@ -1,16 +1,16 @@
 -- A cursor over the sheet from run to run, and the data bit of each cell.
 --
---   checks_before c t   how many check cells come before number t in sheet order
---   data_before c t     how many other cells do
---   next_check c q      the number of check cell q, or the number of cells where there is none left
---   row_ends c i        the data cells before row i and before row i + 1, added: the data bits of the row run from the
---                      one up to but not including the other
---   At c r             where the cursor r stands: its cell, and what comes before it
---   run_length n2 r     the data cells from the cursor to the next check cell or the end of the row
---   data_bit i place ends   the number of the data bit of a cell in row i, from the data cells before it and the row's ends
---   bit_at r j          the number of the data bit j cells after the cursor
---   Begun c r          r stands at the first cell
---   Stepped c r r'     r' stands further on than r, past its run, and only check cells stand between
+--   checks_before c t      how many check cells come before number t in sheet order
+--   data_before c t        how many other cells do
+--   next_check c q         the number of check cell q, or the number of cells where there is none left
+--   row_ends c i           the data cells before row i and before row i + 1, added: the data bits of the row run from the
+--                          one up to but not including the other
+--   At c r                 where the cursor r stands: its cell, and what comes before it
+--   run_length n2 r        the data cells from the cursor to the next check cell or the end of the row
+--   data_bit i place ends  the number of the data bit of a cell in row i, from the data cells before it and the row's ends
+--   bit_at r j             the number of the data bit j cells after the cursor
+--   Begun c r              r stands at the first cell
+--   Stepped c r r'         r' stands further on than r, past its run, and only check cells stand between
 use Rattle.std.specs.Prelude.{ℕ, ◌+◌, ◌-◌, ◌*◌, ◌≤◌, ◌<◌, min, ◌≡◌, true, not, cond, ltb}
 use Rattle.finite.specs.Search.{count_below}
 use Rattle.boxcode.specs.Code.{Code}

@@ -1,11 +1,11 @@
 -- Sheets and data in bytes:
 --
---   corrupted-form, corrupted-cell   the sheet with a burst's cells turned over is of the right form, and its cells
---   corrupted-none, corrupted-back   turning over nothing, or the same cells twice, gives the sheet back
---   fits-cells, cells_fit        a burst fits the bytes exactly where it fits their cells
---   data-form                    the data that a sheet holds is of the right form
---   data-bit                     the bits of the data that a sheet holds
---   data-held                    a sheet that has the bits of some data holds that data
+--   corrupted-form, corrupted-cell  the sheet with a burst's cells turned over is of the right form, and its cells
+--   corrupted-none, corrupted-back  turning over nothing, or the same cells twice, gives the sheet back
+--   fits-cells, cells_fit           a burst fits the bytes exactly where it fits their cells
+--   data-form                       the data that a sheet holds is of the right form
+--   data-bit                        the bits of the data that a sheet holds
+--   data-held                       a sheet that has the bits of some data holds that data
 --
 -- Assumes nothing.
 use mathlib.Core.Path.{◌≡◌, sym, ap, ◌∙◌}

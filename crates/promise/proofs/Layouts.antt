@@ -7,10 +7,9 @@
 use mathlib.Core.Path.{◌≡◌, refl, sym, ap, ap₂, ◌∙◌}
 use mathlib.Core.Bool.{Bool, true, false, xor, cond}
 use mathlib.Core.List.{List}
-use Prim.Native.Nat.{ℕ, ◌<◌}
+use Prim.Native.Nat.{ℕ}
 use lib.Dec.{eqb}
-use lib.ListN.{length}
-use Rattle.layout.specs.Stored.{other_than, cell_in, FormIn, bytes_in, transposed}
+use Rattle.layout.specs.Stored.{other_than, cell_in, bytes_in, transposed}
 use Rattle.layout.specs.declared.stored.Layout.{Layout}
 use Rattle.layout.specs.declared.stored.Layout.TheVariants.{ByRow, ByColumn}
 use Rattle.layout.proofs.Form.{bytes-equal}
@@ -34,7 +33,7 @@ use Rattle.mend.specs.declared.found.Found.{Found}
 use Rattle.mend.specs.Found.{found_verdict, first_burst}
 use Rattle.transpose.specs.Transpose.{TurnedOver, turned_sheet, turned_over, turn_over}
 use Rattle.writer.specs.Write.{data_bits, written_in, write_in}
-use Rattle.reader.specs.Read.{Outcome, burst_in, read_verdict, sheet_read, bits_read, report_read, taken, refused, read_in}
+use Rattle.reader.specs.Read.{burst_in, read_verdict, sheet_read, bits_read, report_read, taken, refused, read_in}
 use Rattle.promise.specs.Promise.{SheetIn, PageIn, cells_in}
 use Rattle.promise.specs.Layouts as promise
 use Rattle.promise.specs.Layouts.{outcome_turned}

@@ -3,22 +3,22 @@
 -- that it belongs and that positions are below k. Each theorem is proved under its name in proofs/Alter.antt.
 --
 --   PositionIn         a position of a data bit: below k
---   turned_at           a string of data with the bit at a position turned over
+--   turned_at          a string of data with the bit at a position turned over
 --   HoldsBit           cell (i, j) holds the data bit at a position
 --   IsCheck            cell (i, j) is a check cell
 --   PositionsIn        a list of positions of data bits
---   alter_each          the call for each position of a list, one after the other, up to the first that is turned back
---   turned_each         a string of data with the bit turned over at each position of a list
+--   alter_each         the call for each position of a list, one after the other, up to the first that is turned back
+--   turned_each        a string of data with the bit turned over at each position of a list
 --   times              how often a position comes in a list
 --
---   Afresh             an altered sheet is the sheet written afresh from the altered data
---   WrittenAltered     so a written sheet, altered, is the sheet written from the altered data
---   OnlyThere          an altered sheet belongs and holds the altered data; that cell is turned over, and of the others only check cells (Alteration)
---   AnyRun             any run of alterations gives the sheet written from the data altered at each of the positions
---   AnyOrder           the order of the alterations does not matter
---   Undone             the same alteration twice leaves the sheet as it was
---   PositionTold, BelongTold   17 is told where the position is k or more, and else 18 where the sheet does not belong
---   AlterRefused       where a check fails, its number and places are told, and each byte stays
+--   Afresh                    an altered sheet is the sheet written afresh from the altered data
+--   WrittenAltered            so a written sheet, altered, is the sheet written from the altered data
+--   OnlyThere                 an altered sheet belongs and holds the altered data; that cell is turned over, and of the others only check cells (Alteration)
+--   AnyRun                    any run of alterations gives the sheet written from the data altered at each of the positions
+--   AnyOrder                  the order of the alterations does not matter
+--   Undone                    the same alteration twice leaves the sheet as it was
+--   PositionTold, BelongTold  17 is told where the position is k or more, and else 18 where the sheet does not belong
+--   AlterRefused              where a check fails, its number and places are told, and each byte stays
 use Rattle.std.specs.Prelude.{ℕ, suc, ◌≤◌, ◌<◌, ◌≡◌, true, not, cond, List, [], ◌∷◌, eqb, length, get_or}
 use Rattle.boxcode.specs.Code.{cell_number}
 use Rattle.boxcode.specs.Check.{check_at, data_size, data_cell}

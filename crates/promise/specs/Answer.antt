@@ -1,17 +1,17 @@
 -- The 64 bits that a host sees: from the answer of each call, for every input, good or bad, each getter takes out its field.
 -- The getters are the shifts and masks of docs/ANSWER.md. Each theorem is proved under its name in proofs/Answer.antt.
 --
---   PlanCarries    the test of a plan: the number and the places of its verdict, and six zeros
---   MakeCarries    making a plan: likewise
---   WriteCarries   writing, in either layout: likewise
---   ReadCarries    reading, in either layout: the number, the places and the reader's six numbers
---   TurnCarries    turning a sheet into the other layout: the number and the places of its verdict, and six zeros
---   SumsCarries    asking for the sums of a run: the number and the places of its verdict, and six zeros
---   AlterCarries   altering: likewise
---   TwoCarries     reading two scans: likewise
---   StackCarries   reading a stack: likewise
---   PutCarries     putting a burst back: likewise
---   DifferenceCarries   asking where two scans first differ: the byte of the second scan where the part starts, and the part's length
+--   PlanCarries        the test of a plan: the number and the places of its verdict, and six zeros
+--   MakeCarries        making a plan: likewise
+--   WriteCarries       writing, in either layout: likewise
+--   ReadCarries        reading, in either layout: the number, the places and the reader's six numbers
+--   TurnCarries        turning a sheet into the other layout: the number and the places of its verdict, and six zeros
+--   SumsCarries        asking for the sums of a run: the number and the places of its verdict, and six zeros
+--   AlterCarries       altering: likewise
+--   TwoCarries         reading two scans: likewise
+--   StackCarries       reading a stack: likewise
+--   PutCarries         putting a burst back: likewise
+--   DifferenceCarries  asking where two scans first differ: the byte of the second scan where the part starts, and the part's length
 use Rattle.std.specs.Prelude.{ℕ, ◌-◌, List}
 use Rattle.layout.specs.declared.stored.Layout.{Layout}
 use Rattle.answer.specs.Answer.{Carries, PartCarries}

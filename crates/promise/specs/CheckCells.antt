@@ -5,7 +5,7 @@
 --   AnyCells       t is 0: a burst may have any cells of its rectangle
 --   TwoWindows     the sheet has at least 2 × b1 rows: two windows stand one below the other
 --   TwoStrips      the sheet has at least 2 × b2 columns: two strips stand side by side
---   check_cells     how many cells of the sheet are check cells
+--   check_cells    how many cells of the sheet are check cells
 --
 --   RowFloor       the row table takes at least 2 × b1 × b2 check cells
 --   ColumnFloor    the column table takes at least b1 × b2

@@ -3,7 +3,7 @@
 -- either belongs to the plan. Each theorem is proved under its name in proofs/Difference.antt.
 --
 --   SameCell           cell (i, j) is the same in both scans
---   handed_back         the bytes handed back: those of the second scan that the part is
+--   handed_back        the bytes handed back: those of the second scan that the part is
 --   HandsNothing       the part is empty
 --   HandsRow           the part is row r, and the bytes are the second scan's bytes of that row
 --   FirstRow           row r is the first in which a cell differs, and it is handed back

@@ -6,7 +6,7 @@
 --   TurnedBack         turning and turning back is nothing: the sheet itself is left
 --   SameWrite          writing answers the same in both layouts
 --   WrittenTurned      the sheet written is the other layout's, turned
---   outcome_turned      the outcome of a read with its sheet turned
+--   outcome_turned     the outcome of a read with its sheet turned
 --   SameRead           reading a sheet is reading it turned: the same answer and data, and the sheet that is left is the other's, turned
 use Rattle.std.specs.Prelude.{◌≡◌, List, ℕ, ◌<◌}
 use Rattle.layout.specs.Stored.{other_than}

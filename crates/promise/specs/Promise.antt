@@ -5,14 +5,14 @@
 --   Passes plan            the plan is accepted: its test gives number 0
 --   DataFor, SheetIn       a string of data, and a sheet, of the right form
 --   BufferFor, PageIn      a data buffer, and a sheet buffer, of the right length, holding anything
---   cells_in                the cells of a sheet
+--   cells_in               the cells of a sheet
 --   BelongsIn              both sums of the sheet are 0 (01: it belongs to the plan)
---   held_in                 the data that a sheet holds in its cells that are not check cells, packed
+--   held_in                the data that a sheet holds in its cells that are not check cells, packed
 --   BurstOn, empty         a burst (01: a blot): a set of cells, possibly empty; the empty one
---   corrupted_in            the sheet with the cells of a burst turned over and no others
+--   corrupted_in           the sheet with the cells of a burst turned over and no others
 --   FitsIn                 the sheet so turned over belongs to the plan (01: the blot fits)
 --   NoneIn, SomeIn         no burst fits the sheet; some burst does
---   read_as                 a read that succeeds: number 0 and places 0, 0, a report, and both buffers after the call
+--   read_as                a read that succeeds: number 0 and places 0, 0, a report, and both buffers after the call
 --   SheetFor, cells_of, BelongsTo, data_in, corrupted, FitsOn, NoneFits, SomeFits   the same of sheets by row, which all other calls keep
 --
 --   PlanTest               the test gives 0 exactly if the plan meets the rules of form and the three conditions

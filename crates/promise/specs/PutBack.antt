@@ -1,8 +1,8 @@
 -- A burst put back (document 02, request k), on bytes. The call answers by `put_back`. Nothing is assumed but what each theorem names: of the plan at most
 -- that its test gives number 0, of a sheet that it is of the right form; it need not belong. Each theorem is proved under its name in proofs/PutBack.antt.
 --
---   answer_for          the reader's answer for a burst: number 0, places 0, 0 and the six numbers of its report, as 64 bits
---   report_told         the six numbers that 64 bits tell
+--   answer_for         the reader's answer for a burst: number 0, places 0, 0 and the six numbers of its report, as 64 bits
+--   report_told        the six numbers that 64 bits tell
 --   FromBurst          64 bits are the answer of some burst of the plan
 --
 --   Restores           from the sheet that the reader leaves and its answer the scan is restored, every byte, whatever the plan and the scan

@@ -1,7 +1,7 @@
 -- A stack of sheets under one plan (document 02, request h), on bytes: what the call gives. The call answers by `read_stack`. Of the bytes that are
 -- handed in nothing is assumed but what a theorem says. Each theorem is proved under its name in proofs/Stack.antt.
 --
---   told_of, after        the number that is told of the whole stack, and the three buffers after the call
+--   told_of, after       the number that is told of the whole stack, and the three buffers after the call
 --   StackRules           what 02 asks of a plan, a stack and its two buffers
 --   SheetRead            sheet i after the call: read as if it were alone
 --   Tells                eighteen bytes tell these nine numbers

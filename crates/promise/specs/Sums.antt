@@ -3,7 +3,7 @@
 -- Each theorem is proved under its name in proofs/Sums.antt.
 --
 --   RoomFor            a buffer of 8 bytes, holding anything
---   v_of, h_of           the V sum and the H sum that the call leaves in it: 32 bits each, low byte first
+--   v_of, h_of         the V sum and the H sum that the call leaves in it: 32 bits each, low byte first
 --   GivesSums          the call gives number 0 with places 0, 0, and these two sums
 --
 --   SumsGiven          the two sums of any run are given

@@ -2,7 +2,7 @@
 -- every burst in order comes to. That sheet_read_by_trial answers so on every input is its contract, which is that of sheet_read. Each
 -- theorem is proved under its name in proofs/Trial.antt.
 --
---   trial_on            the cells of trial number t: rectangles in sheet order, in each every pattern by number
+--   trial_on           the cells of trial number t: rectangles in sheet order, in each every pattern by number
 --   TrialFits          trial number t is a burst, so of few cells where the plan says so (02 m), and brings both sums to 0
 --   StopsAt            trial number t does, and none before it does
 --   TrialStops         a sheet that is taken is mended by the trial that stops: its report, the sheet so turned over, and the data of that

@@ -1,8 +1,8 @@
 -- A burst put back (document 02, request k): the cells that an answer of the reader tells, turned over on a sheet.
 --
 --   cells_told a           the cells that the 64 bits a tell: row r and column s of their rectangle have bit r × width + s of their pattern
---   exceeds, leaves       the rectangle exceeds the plan's burst; it leaves the sheet
---   crowded               there are more than t cells, with t not 0 (02 m)
+--   exceeds, leaves        the rectangle exceeds the plan's burst; it leaves the sheet
+--   crowded                there are more than t cells, with t not 0 (02 m)
 --   no_burst c a           a is the answer of no burst under the plan
 --   burst_verdict          check 22
 --   back_checks            the checks before putting back: 1 to 11, 13 of the sheet, and 22

@@ -2,17 +2,17 @@
 -- answer and every byte of both buffers after the call, in either layout of the sheet. It owes nothing to the way in which a burst
 -- is found.
 --
---   burst_in        the first burst by trial that brings both sums to 0, or Nothing
---   read_verdict    checks 1 to 13, and then 14, which is told where there is no such burst
---   sheet_read      the sheet after a read that succeeds: mended
---   bits_read       the data buffer after it: the data of the mended sheet
---   report_read     its report: the cells that were turned over
+--   burst_in       the first burst by trial that brings both sums to 0, or Nothing
+--   read_verdict   checks 1 to 13, and then 14, which is told where there is no such burst
+--   sheet_read     the sheet after a read that succeeds: mended
+--   bits_read      the data buffer after it: the data of the mended sheet
+--   report_read    its report: the cells that were turned over
 --   Outcome        number and places, report, and both buffers after the call
 --   refused        a refusal: six zeros, and both buffers as they were
 --   taken          a success: number 0 and places 0, 0
---   mend_outcome    what check 14 leaves, under a code, where checks 1 to 13 pass
---   read_in         the read of one sheet
---   read_outcome    the same of a sheet by row, document 01's layout
+--   mend_outcome   what check 14 leaves, under a code, where checks 1 to 13 pass
+--   read_in        the read of one sheet
+--   read_outcome   the same of a sheet by row, document 01's layout
 --   outcome        an answer of the code with the buffers after it, as an outcome
 use Rattle.std.specs.Prelude.{ℕ, cond, List, eqb}
 use Rattle.layout.specs.Stored.{cell_in, bytes_in}

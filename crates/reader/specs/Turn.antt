@@ -1,8 +1,8 @@
 -- A burst turned over on the bytes of a sheet, digit by digit, in either layout.
 --
 --   Rectangle n1 n2 top left b1 b2   the rectangle lies on the sheet
---   digits_turned                     the bytes after the first n digits of pattern number x
---   box_turned                        the bytes after all digits
+--   digits_turned                    the bytes after the first n digits of pattern number x
+--   box_turned                       the bytes after all digits
 --
 -- That box_turned has the cells of the pattern turned over and no others is `box-turned`, in proofs/Turned.antt.
 use Rattle.std.specs.Prelude.{ℕ, zero, suc, ◌+◌, ◌*◌, ◌/◌, ◌%◌, ◌≤◌, List}

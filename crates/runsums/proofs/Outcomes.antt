@@ -1,9 +1,9 @@
 -- The outcome of asking for the sums of a run:
 --
---   sum-refused   where a check fails
---   sum_done      where the checks gave 0
---   put_both      two numbers of 32 bits, one after the other, fill 8 bytes
---   v-back, h-back   the two sums, taken out of the 8 bytes
+--   sum-refused     where a check fails
+--   sum_done        where the checks gave 0
+--   put_both        two numbers of 32 bits, one after the other, fill 8 bytes
+--   v-back, h-back  the two sums, taken out of the 8 bytes
 --
 -- Assumes nothing.
 use mathlib.Core.Path.{◌≡◌, sym, ap, ap₂, ◌∙◌}

@@ -1,9 +1,9 @@
 -- The two sums of a run of rows, as a call leaves them (document 02, request e).
 --
---   run_bytes c first past sheet    8 bytes: the V sum of the rows of the sheet from first up to but not including past, and then
+--   run_bytes c first past sheet   8 bytes: the V sum of the rows of the sheet from first up to but not including past, and then
 --                                  their H sum, 32 bits each, low byte first
 --   Summed, summed                 what a call leaves: its answer and the bytes of its buffer
---   sum_run                         the outcome: number 0 and the two sums, or the first check that fails and the buffer as it was
+--   sum_run                        the outcome: number 0 and the two sums, or the first check that fails and the buffer as it was
 use Rattle.std.specs.Prelude.{ℕ, cond, List, ◌++◌, eqb}
 use Rattle.layout.specs.Number.{low_bytes}
 use Rattle.layout.specs.Cells.{cell_of}

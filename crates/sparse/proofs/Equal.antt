@@ -8,7 +8,6 @@ use mathlib.Core.Bool.{Bool, ◌&&◌, ◌||◌}
 use Prim.Native.Nat.{ℕ, ◌+◌, ◌-◌, ◌≤◌, ◌<◌}
 use native.Mathlib.Omega.{arith}
 use lib.Dec.{eqb}
-use Rattle.finite.specs.Search.{any_below}
 use Rattle.finite.proofs.Search.{any-equal}
 use Rattle.gf2.specs.Xor.{◌⊕◌}
 use Rattle.sparse.specs.Sets.{hit_at, line_hit}

@@ -1,10 +1,10 @@
 -- Laws of a list of sums that grows:
 --
---   one_more, marked_more      one sum more, and its mark
---   grown-start, grown-next    a list as it stands, and with one sum more
---   run-start, run-next        a list that takes the sums of a run of sets
---   one-added, last_one, last-two   a list that takes the sums of the sets whose last place is k
---   zero-only                  the list with the sum 0 only
+--   one_more, marked_more          one sum more, and its mark
+--   grown-start, grown-next        a list as it stands, and with one sum more
+--   run-start, run-next            a list that takes the sums of a run of sets
+--   one-added, last_one, last-two  a list that takes the sums of the sets whose last place is k
+--   zero-only                      the list with the sum 0 only
 --
 -- Assumes nothing.
 use mathlib.Core.Path.{◌≡◌, refl, sym, ap, ap₂, subst, ◌∙◌}

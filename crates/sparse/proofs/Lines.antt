@@ -5,21 +5,19 @@
 --   NoneIn, next-none     of one range (02 m, check 9): none of its sets has sum 0
 --
 -- Assumes nothing.
-use mathlib.Core.Path.{◌≡◌, refl, sym, ap, ap₂, ◌∙◌}
-use mathlib.Core.Bool.{Bool, true, false, ◌&&◌, not}
-use Prim.Native.Nat.{ℕ, zero, suc, ◌+◌, ◌-◌, ◌≤◌, ◌<◌}
-use native.Mathlib.Nat.{lt-suc_self}
+use mathlib.Core.Path.{◌≡◌, sym, ap, ◌∙◌}
+use mathlib.Core.Bool.{Bool, true, false}
+use Prim.Native.Nat.{ℕ, suc, ◌+◌, ◌-◌, ◌≤◌, ◌<◌}
 use native.Mathlib.Decide.{dec_lt}
 use native.Mathlib.Omega.{arith}
-use lib.Dec.{eqb, ltb}
+use lib.Dec.{eqb}
 use borrow.Author.Tests.{eqb-true, eq-eqb}
 use Rattle.finite.specs.Search.{count_below}
-use Rattle.finite.proofs.Truth.{clash, not-true, same_truth}
-use Rattle.finite.proofs.Search.{any_found, any_here, any_none}
-use Rattle.gf2.specs.Xor.{◌⊕◌, pick}
+use Rattle.finite.proofs.Truth.{clash, not-true}
+use Rattle.finite.proofs.Search.{any_found, any_none}
 use Rattle.gf2.specs.Sum.{chosen_sum}
 use Rattle.sparse.specs.Sets.{hit_at, set_sum, clear, line_hit}
-use Rattle.sparse.proofs.Range.{InRange, Last, range-count, range-sum, count-zero, none-chosen, last-chosen, chosen-here, count-here}
+use Rattle.sparse.proofs.Range.{InRange, Last, range-count, range-sum, count-zero, last-chosen, chosen-here, count-here}
 use Rattle.sparse.proofs.Sets as sets
 use Rattle.sparse.proofs.Sets.{SumSet, HitSet}
 

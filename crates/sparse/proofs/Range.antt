@@ -1,27 +1,27 @@
 -- Choices of places in a range, under a bound n:
 --
---   InRange a b m      m chooses places from a up to b, b left out
---   range-count, range-sum   how many they are, and their sum, do not depend on a bound beyond b
---   none-chosen        where none is chosen, the sum is 0
---   last-chosen        where some are, there is a last
---   one, couple        the choice of one place, and of two
+--   InRange a b m           m chooses places from a up to b, b left out
+--   range-count, range-sum  how many they are, and their sum, do not depend on a bound beyond b
+--   none-chosen             where none is chosen, the sum is 0
+--   last-chosen             where some are, there is a last
+--   one, couple             the choice of one place, and of two
 --
 -- Assumes nothing.
-use mathlib.Core.Path.{◌≡◌, refl, sym, ap, ap₂, ◌∙◌}
+use mathlib.Core.Path.{◌≡◌, refl, sym, ap, ◌∙◌}
 use mathlib.Core.Bool.{Bool, true, false, ◌||◌, cond}
 use Prim.Native.Nat.{ℕ, zero, suc, ◌+◌, ◌-◌, ◌≤◌, ◌<◌}
 use native.Mathlib.Nat.{lt-suc_self, add-zero}
-use native.Mathlib.Decide.{ℕ_discrete, dec_lt}
+use native.Mathlib.Decide.{ℕ_discrete}
 use native.Mathlib.Omega.{arith}
 use lib.Dec.{eqb}
-use borrow.Author.Tests.{eqb-true, eq-eqb, ne_eqb}
+use borrow.Author.Tests.{eq-eqb, ne_eqb}
 use Rattle.finite.specs.Search.{count_below}
-use Rattle.finite.proofs.Truth.{Truth, is_true, is_false, true-or-false, clash, not-true, or_left, or_right, or_cases}
-use Rattle.finite.proofs.Count.{count-equal, count_none, count-or, count-single, count-split, count-rise, select, select-below, select-holds, select-number}
+use Rattle.finite.proofs.Truth.{Truth, is_true, is_false, true-or-false, not-true}
+use Rattle.finite.proofs.Count.{count_none, count-single, count-split, count-rise}
 use Rattle.gf2.specs.Xor.{◌⊕◌, pick}
-use Rattle.gf2.specs.Sum.{xor_sum, chosen_sum}
+use Rattle.gf2.specs.Sum.{chosen_sum}
 use Rattle.gf2.proofs.Xor.{xor_zero_right}
-use Rattle.gf2.proofs.Sum.{sum-equal, sum-zero, sum-split, sum-next, sum-single}
+use Rattle.gf2.proofs.Sum.{sum-zero, sum-split, sum-next, sum-single}
 use Rattle.gf2.proofs.Independence.{pick_true, pick-false}
 
 pub record InRange (a b : ℕ) (m : ℕ → Bool) : Type 0 where

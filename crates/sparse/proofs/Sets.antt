@@ -1,13 +1,13 @@
 -- The sets of few words by their last place, and as choices of places:
 --
---   From a m           m chooses places from a on
---   hit-of, hit-set    a choice with its last place at k, and hit_at
---   set-of, set-mask   a choice of few places, and set_sum
---   ApartIn            choices of few places of a range with the same sum are the same
---   clear_apart, apart-clear   that is clear
+--   From a m                  m chooses places from a on
+--   hit-of, hit-set           a choice with its last place at k, and hit_at
+--   set-of, set-mask          a choice of few places, and set_sum
+--   ApartIn                   choices of few places of a range with the same sum are the same
+--   clear_apart, apart-clear  that is clear
 --
 -- Assumes nothing.
-use mathlib.Core.Path.{◌≡◌, refl, sym, ap, ap₂, ◌∙◌}
+use mathlib.Core.Path.{◌≡◌, refl, sym, ap, ◌∙◌}
 use mathlib.Core.Bool.{Bool, true, false, ◌&&◌, ◌||◌, not, cond}
 use Prim.Native.Nat.{ℕ, zero, suc, ◌+◌, ◌-◌, ◌≤◌, ◌<◌}
 use native.Mathlib.Nat.{lt-suc_self, add-zero, add-suc}

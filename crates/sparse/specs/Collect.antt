@@ -8,10 +8,9 @@
 --   Room words first size sums marks    what is lent: a window of at most 16 words, a list of 257 sums and 4,096 bytes of marks
 --   Windowed t f first size r sums marks   where no two sets of the window have the same sum, the first r sums are those of its sets;
 --                                          else r is 0
-use Rattle.std.specs.Prelude.{ℕ, ◌+◌, ◌-◌, ◌≤◌, ◌<◌, ◌≡◌, Bool, true, false, ◌||◌, List, eqb, length, take}
+use Rattle.std.specs.Prelude.{ℕ, ◌+◌, ◌-◌, ◌≤◌, ◌≡◌, Bool, true, false, ◌||◌, List, eqb, length, take}
 use Rattle.finite.specs.Search.{any_below}
 use Rattle.gf2.specs.Xor.{◌⊕◌}
-use Rattle.plan.specs.Table.{word_at}
 use Rattle.sparse.specs.Sets.{hit_at, one_of, clear, Marked, SumsOf}
 
 abbrev pub pair_has : (ℕ → ℕ) → ℕ → ℕ → ℕ → Bool

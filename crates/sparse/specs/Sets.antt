@@ -1,14 +1,14 @@
 -- Sets of at most t words of a table, t being 1 or 2 (document 02, request m), by their last place.
 --
---   hit_at t f from k T       a set of at most t places, whose last is k and whose others are from `from` on, has a sum in T
---   set_sum t f from n x      x is the sum of a set of at most t of the n places from `from` on; the empty one counts
---   clear t f from n         of these sets no two have the same sum
---   line_hit t f from last n T   a set as in hit_at, with its last place among the n from `last` on
---   one_of sums               a number is among these
---   mark_place, has_mark, mark_set   there are 32,768 marks, eight to a byte: the byte of a number's mark, whether it has its mark, and the marks with it
---   Marked sums marks        each of the sums has its mark: a number without one is none of them
---   NextMarked f marks from k r   no place from `from` up to r makes with k a number that has a mark
---   SumsOf t f from n sums marks   these are the sums of the sets of at most t of the n places
+--   hit_at t f from k T             a set of at most t places, whose last is k and whose others are from `from` on, has a sum in T
+--   set_sum t f from n x            x is the sum of a set of at most t of the n places from `from` on; the empty one counts
+--   clear t f from n                of these sets no two have the same sum
+--   line_hit t f from last n T      a set as in hit_at, with its last place among the n from `last` on
+--   one_of sums                     a number is among these
+--   mark_place, has_mark, mark_set  there are 32,768 marks, eight to a byte: the byte of a number's mark, whether it has its mark, and the marks with it
+--   Marked sums marks               each of the sums has its mark: a number without one is none of them
+--   NextMarked f marks from k r     no place from `from` up to r makes with k a number that has a mark
+--   SumsOf t f from n sums marks    these are the sums of the sets of at most t of the n places
 use Rattle.std.specs.Prelude.{ℕ, zero, suc, ◌+◌, ◌-◌, ◌/◌, ◌%◌, ◌^◌, ◌≤◌, ◌<◌, ◌≡◌, Bool, true, false, ◌&&◌, ◌||◌, not, List, eqb, length, set}
 use Rattle.std.specs.Int.Bits.{bit_or}
 use Rattle.finite.specs.Search.{bit, any_below}

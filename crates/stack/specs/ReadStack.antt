@@ -1,19 +1,19 @@
 -- A stack of sheets under one plan, read (document 02, request h), as one function of the plan and the three lent buffers to the answer and every
 -- byte of these after the call. A stack is a map of the reader's own definition, read_outcome, over its sheets.
 --
---   sheet_size c, data_bytes c    the bytes of a sheet, and of its data
---   sheet_at c s i               sheet i of the stack s
---   numbers_at t i               its place in the buffer of numbers: 18 bytes a sheet
---   bits_at c b i                its place in the data buffer
---   stack_form                   check 20: the header or the stack's length breaks the rules
---   stack_checks                 the checks before reading a stack: the plan, 20, 21 and 12
---   read_alone plan s b i        sheet i, read as if it were alone
---   number_bytes o               its nine numbers, 16 bits each: refusal or 0, p, q, and the reader's six, the pattern last (02 k)
+--   sheet_size c, data_bytes c  the bytes of a sheet, and of its data
+--   sheet_at c s i              sheet i of the stack s
+--   numbers_at t i              its place in the buffer of numbers: 18 bytes a sheet
+--   bits_at c b i               its place in the data buffer
+--   stack_form                  check 20: the header or the stack's length breaks the rules
+--   stack_checks                the checks before reading a stack: the plan, 20, 21 and 12
+--   read_alone plan s b i       sheet i, read as if it were alone
+--   number_bytes o              its nine numbers, 16 bits each: refusal or 0, p, q, and the reader's six, the pattern last (02 k)
 --   Lent, lent                  the three lent buffers
 --   SameFrame                   two triples of them have the same header, and the same lengths
---   each_read plan s b           the buffers after a read that is not refused: the header as it was, and each sheet's read in its place
---   StackRead, stack_read        what a call leaves: its answer and the three buffers
---   read_stack                   the read of a stack
+--   each_read plan s b          the buffers after a read that is not refused: the header as it was, and each sheet's read in its place
+--   StackRead, stack_read       what a call leaves: its answer and the three buffers
+--   read_stack                  the read of a stack
 use Rattle.std.specs.Prelude.{ℕ, ◌*◌, ◌≡◌, cond, List, ◌++◌, eqb, length, take}
 use Rattle.layout.specs.Cells.{row_bytes, sheet_bytes}
 use Rattle.layout.specs.Number.{low_bytes}

@@ -1,7 +1,7 @@
 -- One sheet of a stack after the other.
 --
 --   Sized c n l               the three buffers have the lengths of a stack of n sheets
---   read_left o                what the read of one sheet leaves in its three places: the sheet, its numbers and its data
+--   read_left o               what the read of one sheet leaves in its three places: the sheet, its numbers and its data
 --   stepped plan c n i l      the buffers l with sheet i of n read
 --   partly plan c n i l       the buffers l with the first i of n sheets read
 use Rattle.std.specs.Prelude.{ℕ, ◌*◌, ◌≡◌, List, length}

@@ -1,13 +1,13 @@
 -- A stack of sheets in bytes (document 02, request h): a header, and then the sheets, in the header's order and without gaps. All numbers
 -- are low byte first; a sheet has size bytes.
 --
---   sheet_count s           the count: how many sheets the stack holds, 16 bits
---   room_of s i             the room of sheet i: 16 bits
---   offset_of s i           its offset from the stack's first byte: 32 bits
---   header_end n            where the header of n sheets ends
---   sheet_place size n i    where sheet i of n begins: after the header and the sheets before it
+--   sheet_count s          the count: how many sheets the stack holds, 16 bits
+--   room_of s i            the room of sheet i: 16 bits
+--   offset_of s i          its offset from the stack's first byte: 32 bits
+--   header_end n           where the header of n sheets ends
+--   sheet_place size n i   where sheet i of n begins: after the header and the sheets before it
 --   entry_broken size n s i what the header tells of sheet i breaks the rules: its room is over 1, or its offset is not where it begins
---   stack_broken size s     the stack breaks the rules: it has no count, or one over 64, or does not end after the last sheet, or the header
+--   stack_broken size s    the stack breaks the rules: it has no count, or one over 64, or does not end after the last sheet, or the header
 --                          breaks them for a sheet
 use Rattle.std.specs.Prelude.{ℕ, ◌+◌, ◌*◌, Bool, not, ◌||◌, List, eqb, ltb, length}
 use Rattle.finite.specs.Search.{any_below}

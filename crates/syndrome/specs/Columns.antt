@@ -2,10 +2,10 @@
 --
 --   by_column n1 n2 s        the cells of a sheet that is stored by columns in the bytes s
 --   column_sum n1 w s a b j  the exclusive-or of the weights of the cells of a set that stand in column j and in the rows from a up to
---                           but not including b
---   tabled h rows columns   the code with the numbers of a header and its two tables in words; the sums ask nothing of its check list
---   Tables h rows columns   what gathering asks of the two tables
---   PartSums c s b j r      r has the two sums of the cells that stand in column j and in block b, the eight rows from 8 × b on
+--                            but not including b
+--   tabled h rows columns    the code with the numbers of a header and its two tables in words; the sums ask nothing of its check list
+--   Tables h rows columns    what gathering asks of the two tables
+--   PartSums c s b j r       r has the two sums of the cells that stand in column j and in block b, the eight rows from 8 × b on
 use Rattle.std.specs.Prelude.{ℕ, ◌+◌, ◌*◌, ◌≤◌, ◌<◌, List, length}
 use Rattle.gf2.specs.Xor.{pick}
 use Rattle.gf2.specs.Sum.{run_sum}

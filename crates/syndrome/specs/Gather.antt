@@ -1,7 +1,7 @@
 -- The two sums of a run of rows, gathered row by row, from the last row to the first, and byte by byte.
 --
---   byte_sum f x j n      the exclusive-or of the weights of the n cells from column j on that stand in the byte x, with weight f of a column
---   rows_at, columns_at    the weight of a column by the words of a row of V, and by the unpacked table H
+--   byte_sum f x j n     the exclusive-or of the weights of the n cells from column j on that stand in the byte x, with weight f of a column
+--   rows_at, columns_at  the weight of a column by the words of a row of V, and by the unpacked table H
 --   RowWords f n words   words k is f k, for the n entries of V that a row has
 --   Words                what gathering a row asks of its tables
 --   TwoSums v h r        r has the sums v and h, which have at most 32 bits
@@ -9,7 +9,7 @@
 --   RowSums c s i r      r has the two sums of row i of the sheet s
 --   SheetSums c s r      r has the two sums of the sheet s
 --   RunSums c s a b r    r has the two sums of the rows from a up to but not including b
---   run_rows n1 run       how many rows of a run are on a sheet of n1 rows
+--   run_rows n1 run      how many rows of a run are on a sheet of n1 rows
 --   Fed c s run k r      r has the two sums of the rows fed so far, those from row number k of the run on (02 b)
 use Rattle.std.specs.Prelude.{ℕ, ◌+◌, ◌-◌, ◌*◌, ◌%◌, ◌≤◌, ◌<◌, min, ◌≡◌, List, length, get_or}
 use Rattle.finite.specs.Search.{bit}

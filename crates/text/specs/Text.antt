@@ -1,16 +1,16 @@
 -- Text in a buffer of bytes, in ASCII.
 --
---   space, newline    the two bytes between and after the fields
---   digit_of d         the digit d, below 16: 0 to 9, then a to f
---   decimal_bytes n    n in decimal, with no zero in front; 0 is one digit
---   field x           a space and a number
---   hex_bytes b        a byte as two hexadecimal digits
---   each f s          the texts that f has for the numbers of s, one after another
---   hex_text s         every byte of s as two hexadecimal digits, with nothing between
---   line_bytes x       a number and a newline
---   lines_text s       every number of s on a line of its own
---   Put               what a function that writes text promises: every byte of the buffer, and the end of the text
---   Printed text out r   the first r bytes of the buffer out are the text
+--   space, newline      the two bytes between and after the fields
+--   digit_of d          the digit d, below 16: 0 to 9, then a to f
+--   decimal_bytes n     n in decimal, with no zero in front; 0 is one digit
+--   field x             a space and a number
+--   hex_bytes b         a byte as two hexadecimal digits
+--   each f s            the texts that f has for the numbers of s, one after another
+--   hex_text s          every byte of s as two hexadecimal digits, with nothing between
+--   line_bytes x        a number and a newline
+--   lines_text s        every number of s on a line of its own
+--   Put                 what a function that writes text promises: every byte of the buffer, and the end of the text
+--   Printed text out r  the first r bytes of the buffer out are the text
 use Rattle.std.specs.Prelude.{ℕ, zero, suc, ◌+◌, ◌/◌, ◌%◌, ◌≤◌, ◌≡◌, cond, List, [], ◌∷◌, ◌++◌, ltb, length, take}
 use Rattle.std.proofs.lemmas.List.Edits.{sets}
 

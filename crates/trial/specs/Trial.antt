@@ -1,12 +1,12 @@
 -- The trial of one rectangle (02 j: "each rectangle in sheet order, each pattern in it, until both sums are 0"). The trial of a
 -- whole sheet is first_burst, in the specs of mend.
 --
---   weight_by           the entry of a cell in one of the two tables
+--   weight_by          the entry of a cell in one of the two tables
 --   Gathered           sixteen words: the entries of a rectangle's cells, row by row, and zeros after them
---   pattern_sum         the exclusive-or of those of sixteen entries whose digit in the pattern's number is 1
---   has_sums            pattern number x, of cells with these V and H entries, has the V sum v and the H sum s
---   fits_few            the same, and it has few of n cells where t is not 0
---   tried_at            pattern number x, in the rectangle at a top row and a left column, is a burst with these two sums
+--   pattern_sum        the exclusive-or of those of sixteen entries whose digit in the pattern's number is 1
+--   has_sums           pattern number x, of cells with these V and H entries, has the V sum v and the H sum s
+--   fits_few           the same, and it has few of n cells where t is not 0
+--   tried_at           pattern number x, in the rectangle at a top row and a left column, is a burst with these two sums
 use Rattle.std.specs.Prelude.{ℕ, ◌+◌, ◌*◌, ◌/◌, ◌%◌, ◌≤◌, ◌<◌, ◌≡◌, Bool, ◌&&◌, List, eqb, length}
 use Rattle.gf2.specs.Sum.{chosen_sum}
 use Rattle.finite.specs.Search.{bit, count_below, few}

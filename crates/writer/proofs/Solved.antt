@@ -1,9 +1,9 @@
 -- What the check cells must hold.
 --
---   joint-value          the joint sum of a sheet, from its two sums
---   few-joints, free-joints   the joint entries of the check cells are at most 64, and independent
---   combination-makes    the solution for the joint entries of the check cells makes the target
---   never-outside        under an accepted plan there is one
+--   joint-value              the joint sum of a sheet, from its two sums
+--   few-joints, free-joints  the joint entries of the check cells are at most 64, and independent
+--   combination-makes        the solution for the joint entries of the check cells makes the target
+--   never-outside            under an accepted plan there is one
 --
 -- Assumes nothing.
 use mathlib.Core.Path.{◌≡◌, sym, ap, ap₂, ◌∙◌}

@@ -1,7 +1,7 @@
 -- The steps of writing, as the code takes them; laws join them to the written sheet.
 --
 --   JointSum c s r          r is the joint sum of the sheet s, and has rv + rh digits
---   turned_to lay c y n s    the bytes s with those of the first n check cells turned over whose digit of y is 1
+--   turned_to lay c y n s   the bytes s with those of the first n check cells turned over whose digit of y is 1
 use Rattle.std.specs.Prelude.{ℕ, zero, suc, ◌+◌, ◌^◌, ◌<◌, ◌≡◌, List}
 use Rattle.finite.specs.Search.{bit}
 use Rattle.layout.specs.Stored.{turned_in}

@@ -1,11 +1,11 @@
 -- Writing a sheet (document 01, "Sheet and data"; checks 1 to 13), in either layout.
 --
---   data_bits k s               the string of k bits in the bytes s: one row of k cells
---   written_in lay plan bits    every byte of the sheet written from the data under the plan
---   Wrote, wrote               what a call leaves: its answer and the bytes of the sheet
---   write_in lay plan bits sheet   the outcome of writing: number 0 and the written sheet, or the first check that fails and the
---                              sheet as it was
---   written_bytes, write        the same of sheets by row, document 01's layout
+--   data_bits k s                 the string of k bits in the bytes s: one row of k cells
+--   written_in lay plan bits      every byte of the sheet written from the data under the plan
+--   Wrote, wrote                  what a call leaves: its answer and the bytes of the sheet
+--   write_in lay plan bits sheet  the outcome of writing: number 0 and the written sheet, or the first check that fails and the
+--                                 sheet as it was
+--   written_bytes, write          the same of sheets by row, document 01's layout
 use Rattle.std.specs.Prelude.{ℕ, cond, List, eqb}
 use Rattle.layout.specs.Cells.{cell_of}
 use Rattle.layout.specs.Stored.{bytes_in}

@@ -1,5 +1,4 @@
 use mathlib.Core.Path.{◌≡◌, refl}
-use Prim.Native.Nat.{◌-◌}
 use native.Mathlib.Omega.{arith}
 use Rattle.gf2.specs.Xor.{◌⊕◌}
 use Rattle.accept.proofs.Remains.{block_start, block-next}

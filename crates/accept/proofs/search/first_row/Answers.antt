@@ -1,5 +1,4 @@
 use mathlib.Core.Path.{refl, sym, ◌∙◌}
-use Prim.Native.Nat.{◌-◌}
 use native.Mathlib.Omega.{arith}
 use Rattle.accept.proofs.Pairing.{row_next, row-fails, row-end}
 use Rattle.accept.proofs.Shift.{window-in}

@@ -1,5 +1,5 @@
 use mathlib.Core.Path.{◌≡◌, refl, sym, ap, ◌∙◌}
-use Prim.Native.Nat.{◌-◌, ◌*◌}
+use Prim.Native.Nat.{◌*◌}
 use native.Mathlib.Nat.{mul-le-mul_right, sub-zero}
 use native.Mathlib.Omega.{arith}
 use Rattle.accept.specs.Pairs.{from_row, first_failing}

@@ -1,8 +1,6 @@
 use mathlib.Core.Path.{sym, ◌∙◌}
-use Prim.Native.Nat.{◌-◌}
 use native.Mathlib.Omega.{arith}
 use borrow.Author.Count.{below_none}
-use borrow.Author.Tests.{not-false}
 use Rattle.layout.proofs.Agreement.{block-next}
 use Rattle.layout.proofs.differ.same_blocks.Goals as goal
 

@@ -14,34 +14,34 @@ use Rattle.line.proofs.parts.data_bytes.Goals as goal
 pub returns-then-h-gt512 : goal.returns-then-h-gt512
 returns-then-h-gt512 c =
     record {
-  most = omega arith;
-  right = λ A. let e = ap (λ (h : Header). h.n1) c.header_of-h.ensures in absurd (omega (arith, A.framed.small.n1-most));
-}
+      most = omega arith;
+      right = λ A. let e = ap (λ (h : Header). h.n1) c.header_of-h.ensures in absurd (omega (arith, A.framed.small.n1-most));
+    }
 
 pub returns-then-h-gt698 : goal.returns-then-h-gt698
 returns-then-h-gt698 c =
     record {
-  most = omega arith;
-  right = λ A. let e = ap (λ (h : Header). h.n2) c.header_of-h.ensures in absurd (omega (arith, A.framed.small.n2-most));
-}
+      most = omega arith;
+      right = λ A. let e = ap (λ (h : Header). h.n2) c.header_of-h.ensures in absurd (omega (arith, A.framed.small.n2-most));
+    }
 
 pub returns-then-h-gt32 : goal.returns-then-h-gt32
 returns-then-h-gt32 c =
     record {
-  most = omega arith;
-  right = λ A.
-      let e = ap (λ (h : Header). h.rv) c.header_of-h.ensures in
-      absurd (omega (arith, A.framed.small.rv-most));
-}
+      most = omega arith;
+      right = λ A.
+          let e = ap (λ (h : Header). h.rv) c.header_of-h.ensures in
+          absurd (omega (arith, A.framed.small.rv-most));
+    }
 
 pub returns-then-h-gt32-2 : goal.returns-then-h-gt32-2
 returns-then-h-gt32-2 c =
     record {
-  most = omega arith;
-  right = λ A.
-      let e = ap (λ (h : Header). h.rh) c.header_of-h.ensures in
-      absurd (omega (arith, A.framed.small.rh-most));
-}
+      most = omega arith;
+      right = λ A.
+          let e = ap (λ (h : Header). h.rh) c.header_of-h.ensures in
+          absurd (omega (arith, A.framed.small.rh-most));
+    }
 
 pub overflow_mul-cells : goal.overflow_mul-cells
 overflow_mul-cells c =
@@ -52,13 +52,13 @@ pub returns-then-cells-checks : goal.returns-then-cells-checks
 unfolding code_of
 returns-then-cells-checks c =
     record {
-  most = omega arith;
-  right = λ A.
-      let e = c.header_of-h.ensures in
-      let p = ap (λ (h : Header). h.n1 * h.n2) e in
-      let q = ap (λ (h : Header). h.rv + h.rh) e in
-      absurd (omega (arith, checks-fit _ A.formed));
-}
+      most = omega arith;
+      right = λ A.
+          let e = c.header_of-h.ensures in
+          let p = ap (λ (h : Header). h.n1 * h.n2) e in
+          let q = ap (λ (h : Header). h.rv + h.rh) e in
+          absurd (omega (arith, checks-fit _ A.formed));
+    }
 
 pub row_bytes-requires : goal.row_bytes-requires
 row_bytes-requires c =

@@ -1,5 +1,4 @@
 use mathlib.Core.Path.{sym, ◌∙◌}
-use Prim.Native.Nat.{◌-◌}
 use native.Mathlib.Omega.{arith}
 use Rattle.mend.proofs.Windows.{search-starts, search-misses, search-finds, search-ends}
 use Rattle.mend.proofs.find.search.Goals as goal

@@ -1,6 +1,6 @@
 -- `mend::report::part_number` meets its contract. The invariant: y has the digits from k on. Assumes nothing.
 use mathlib.Core.Path.{◌≡◌}
-use Prim.Native.Nat.{◌-◌, ◌*◌, ◌≤◌}
+use Prim.Native.Nat.{◌*◌, ◌≤◌}
 use Rattle.mend.specs.Report.{part_digit}
 use Rattle.mend.proofs.Turns.{digits_from}
 use Rattle.mend.proofs.report.part_number.Given as goal

@@ -1,6 +1,6 @@
 -- `mend::report::past_line` meets its contract. The invariant: no line from `past` on has a cell. Assumes nothing.
 use mathlib.Core.Path.{◌≡◌}
-use Prim.Native.Nat.{◌-◌, ◌≤◌}
+use Prim.Native.Nat.{◌≤◌}
 use Rattle.finite.specs.Search.{past_of}
 use Rattle.mend.specs.Report.{line_has}
 use Rattle.mend.proofs.report.past_line.Given as goal

@@ -1,6 +1,6 @@
 -- `mend::strip::box_pattern` meets its contract. The invariant: y has the digits from k on. Assumes nothing.
 use mathlib.Core.Path.{◌≡◌}
-use Prim.Native.Nat.{◌-◌, ◌*◌, ◌≤◌}
+use Prim.Native.Nat.{◌*◌, ◌≤◌}
 use Rattle.mend.specs.Strip.{laid_digit}
 use Rattle.mend.proofs.Turns.{digits_from}
 use Rattle.mend.proofs.strip.box_pattern.Given as goal

@@ -1,5 +1,5 @@
 use mathlib.Core.Path.{◌≡◌, sym, ◌∙◌}
-use Prim.Native.Nat.{◌-◌, ◌≤◌, ◌<◌}
+use Prim.Native.Nat.{◌≤◌, ◌<◌}
 use native.Mathlib.Nat.{mod-lt, mul-le-mul, zero-mul}
 use native.Mathlib.Omega.{arith}
 use Rattle.mend.specs.Strip.{laid_line, laid_sum}

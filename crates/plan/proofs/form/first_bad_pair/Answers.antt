@@ -1,10 +1,7 @@
 use mathlib.Core.Path.{sym, ◌∙◌}
-use mathlib.Core.Bool.{false}
-use Prim.Native.Nat.{◌-◌}
 use native.Mathlib.Omega.{arith}
 use borrow.Author.Count.{below_none, below_more}
 use Rattle.finite.proofs.Search.{search-finds, search-ends}
-use Rattle.plan.specs.Form.{bad_pair}
 use Rattle.plan.proofs.form.first_bad_pair.Goals as goal
 
 pub overflow_add-count : goal.overflow_add-count

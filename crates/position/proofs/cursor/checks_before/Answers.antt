@@ -1,4 +1,3 @@
-use Prim.Native.Nat.{◌-◌}
 use native.Mathlib.Omega.{arith}
 use Rattle.position.proofs.Before.{up-to-first, up-to-next, up-to-last, up-to-end}
 use Rattle.position.proofs.cursor.checks_before.Goals as goal

@@ -1,4 +1,3 @@
-use Prim.Native.Nat.{◌-◌}
 use native.Mathlib.Omega.{arith}
 use Rattle.position.proofs.Before.{up-to-none, up-to-next}
 use Rattle.position.proofs.Placed.{count_most, follows-here, follows-past}

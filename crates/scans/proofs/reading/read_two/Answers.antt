@@ -1,13 +1,12 @@
 -- `scans::reading::read_two` meets its contract: what writes is reached only where checks 1 to 13 pass. Assumes nothing.
-use mathlib.Core.Path.{◌≡◌, refl, ap, ◌∙◌}
+use mathlib.Core.Path.{refl, ap, ◌∙◌}
 use native.Mathlib.Omega.{arith}
 use Rattle.layout.specs.declared.stored.Layout.TheVariants.{ByRow}
 use Rattle.plan.specs.declared.header.Header.{Header}
 use Rattle.plan.specs.declared.verdict.Verdict.{Verdict}
 use Rattle.plan.specs.Bytes.{code_of, code_with}
 use Rattle.accept.proofs.Acceptance.{accepted-with}
-use Rattle.buffers.specs.Buffers.{read_two_checks}
-use Rattle.buffers.proofs.Passing.{MayReadTwo, two-zero, checked-passes}
+use Rattle.buffers.proofs.Passing.{two-zero, checked-passes}
 use Rattle.reader.specs.Read.{mend_outcome}
 use Rattle.scans.specs.ReadTwo.{decide}
 use Rattle.scans.proofs.Decided.{two-refuses, two-decides}

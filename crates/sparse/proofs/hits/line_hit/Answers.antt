@@ -1,10 +1,8 @@
 use mathlib.Core.Path.{sym, ◌∙◌}
-use mathlib.Core.Bool.{false}
-use Prim.Native.Nat.{◌-◌}
 use native.Mathlib.Omega.{arith}
 use borrow.Author.Count.{below_none, below_more}
 use Rattle.finite.proofs.Search.{any_here, none_any}
-use Rattle.sparse.specs.Sets.{hit_at, line_hit}
+use Rattle.sparse.specs.Sets.{line_hit}
 use Rattle.sparse.proofs.hits.line_hit.Goals as goal
 
 pub loop-d-init : goal.loop-d-init

@@ -1,6 +1,4 @@
 use mathlib.Core.Path.{sym, ◌∙◌}
-use mathlib.Core.Bool.{false}
-use Prim.Native.Nat.{◌-◌}
 use native.Mathlib.Omega.{arith}
 use Rattle.gf2.specs.Xor.{◌⊕◌}
 use Rattle.sparse.proofs.Marks.{unmarked, run_join, run-here, run_past}

@@ -1,5 +1,5 @@
 use mathlib.Core.Path.{◌≡◌, refl, sym, ap, ◌∙◌}
-use Prim.Native.Nat.{ℕ, ◌+◌, ◌-◌, ◌%◌}
+use Prim.Native.Nat.{ℕ, ◌+◌, ◌%◌}
 use native.Mathlib.Nat.{zero-mod, mod-add-mod, mod-lt}
 use native.Mathlib.Omega.{arith}
 use Rattle.syndrome.proofs.Block.{passed_none, passed-next, passed-all}

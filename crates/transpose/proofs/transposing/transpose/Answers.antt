@@ -1,5 +1,4 @@
 use mathlib.Core.Path.{◌≡◌, sym, ◌∙◌}
-use Prim.Native.Nat.{◌-◌}
 use native.Mathlib.Omega.{arith}
 use Rattle.transpose.proofs.Transposed.{begun-none, begun_all}
 use Rattle.transpose.proofs.transposing.transpose.Goals as goal

@@ -1,5 +1,4 @@
 use mathlib.Core.Path.{◌≡◌}
-use Prim.Native.Nat.{◌-◌}
 use native.Mathlib.Omega.{arith}
 use Rattle.mend.proofs.Turns.{sum-start, sum_more}
 use Rattle.trial.specs.Trial.{pattern_sum}
