@@ -91,26 +91,26 @@ module _ (c : Code) (F : Formed c) where
   unfolding rows_verdict row_pair_free
   hold-rows K =
       ap (pair_verdict 8)
-      (all-clear (row_pair_free c) (λ k. k) (c.n1 - c.b1 + 1) (λ i i' _ l u. go (ℕ_discrete c.t 0) i i' l (omega (arith, F.n1-least))))
+      (all-clear (row_pair_free c) (λ k. k) (c.n1 - c.b1 + 1) (λ i i' _ l u. go (ℕ_discrete c.t 0) i i' l (omega (arith, F.n1_least))))
     where
       go : Dec (c.t ≡ 0) → (i i' : ℕ) → i ≤ i' → i' + c.b1 ≤ c.n1 → row_pair_free c i i' ≡ true
       go (yes z) i i' l u = when-any c.t _ _ z ∙ independent-free (c.n1 * c.b2) (row_member c i i') c.row_entry (K.rows z i i' l u)
       go (no z) i i' l u =
           when-few c.t _ _ (omega arith)
-          ∙ so-apart c.t (c.n1 * c.b2) (in_window c i) (in_window c i') c.row_entry (K.sparse-rows (omega arith) i i' l u)
+          ∙ so-apart c.t (c.n1 * c.b2) (in_window c i) (in_window c i') c.row_entry (K.sparse_rows (omega arith) i i' l u)
 
   pub hold-columns : Conditions c → columns_verdict c ≡ accepted
   unfolding columns_verdict column_pair_free
   hold-columns K =
       ap (pair_verdict 9)
       (all-clear (column_pair_free c) (λ k. k + 1) (c.n2 - c.b2 + 1)
-      (λ a a' _ l u. go (ℕ_discrete c.t 0) a a' (omega arith) (omega (arith, F.n2-least))))
+      (λ a a' _ l u. go (ℕ_discrete c.t 0) a a' (omega arith) (omega (arith, F.n2_least))))
     where
       go : Dec (c.t ≡ 0) → (a a' : ℕ) → a < a' → a' + c.b2 ≤ c.n2 → column_pair_free c a a' ≡ true
       go (yes z) a a' l u = when-any c.t _ _ z ∙ independent-free (c.b2 * c.b1) (column_member c a a') (column_difference c a a') (K.columns z a a' l u)
       go (no z) a a' l u =
           when-few c.t _ _ (omega arith)
-          ∙ so-free c.t (c.b2 * c.b1) (column_member c a a') (column_difference c a a') (K.sparse-columns (omega arith) a a' l u)
+          ∙ so-free c.t (c.b2 * c.b1) (column_member c a a') (column_difference c a a') (K.sparse_columns (omega arith) a a' l u)
 
   pub checks-hold : (checks_verdict c).number ≡ 0 → Independent (c.rv + c.rh) everyone (check_joint c)
   unfolding checks_verdict
@@ -131,8 +131,8 @@ module _ (c : Code) (F : Formed c) where
   all_hold r s checks = record {
     rows = rows-hold r;
     columns = columns-hold s;
-    sparse-rows = sparse-rows-hold r;
-    sparse-columns = sparse-columns-hold s;
+    sparse_rows = sparse-rows-hold r;
+    sparse_columns = sparse-columns-hold s;
     checks = checks;
   }
 

@@ -49,7 +49,7 @@ module _ (c : Code) (F : Formed c) where
   joints-below k l =
       let n : k < c.rv + c.rh = omega (arith, listed-length (c.rv + c.rh) (check_joint c)) in
       rw (listed_at (c.rv + c.rh) (check_joint c) k n)
-      (omega (arith, check-below c F k n, joint-word c.rv c.rh F.rv-most F.rh-most))
+      (omega (arith, check-below c F k n, joint-word c.rv c.rh F.rv_most F.rh_most))
 
   pub joints-taken : taken_from [] (joints_of c) ≡ least (c.rv + c.rh) (λ k. spanned k everyone (check_joint c) (check_joint c k))
   unfolding joints_of

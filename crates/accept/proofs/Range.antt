@@ -33,8 +33,8 @@ use Rattle.accept.specs.Verdict.{rows_verdict, columns_verdict, checks_verdict, 
 
 pub record SmallVerdict (v : Verdict) : Type 0 where
   pub number_fits : v.number < 32
-  pub p-fits : v.p < 65536
-  pub q-fits : v.q < 4096
+  pub p_fits : v.p < 65536
+  pub q_fits : v.q < 4096
   -- the sentence of document 01: "A call that succeeds has number 0 and places 0, 0"
   pub silent : v.number ≡ 0 → (v.p ≡ 0) × (v.q ≡ 0)
 
@@ -43,7 +43,7 @@ refuses : {v : Verdict} → 0 < v.number → v.number ≡ 0 → (v.p ≡ 0) × (
 refuses l e = absurd (omega arith)
 
 pub accepted-fits : SmallVerdict accepted
-accepted-fits = record { number_fits = omega arith; p-fits = omega arith; q-fits = omega arith; silent = λ _. (refl, refl) }
+accepted-fits = record { number_fits = omega arith; p_fits = omega arith; q_fits = omega arith; silent = λ _. (refl, refl) }
 
 pub else-fits : (v w : Verdict) → SmallVerdict v → (v.number ≡ 0 → SmallVerdict w) → SmallVerdict (v or_else w)
 unfolding ◌or_else◌
@@ -88,11 +88,11 @@ unfolding first_failing PairBelow
 pair_fits number n ok start some l u s = go (from_row ok start n 0 n) (rows-below ok start n n 0 s (omega arith))
   where
     go : (p : Pair) → PairBelow n p → SmallVerdict (pair_verdict number p)
-    go (Failing i j) b = record { number_fits = l; p-fits = omega (arith, b.0); q-fits = omega (arith, b.1); silent = refuses some }
+    go (Failing i j) b = record { number_fits = l; p_fits = omega (arith, b.0); q_fits = omega (arith, b.1); silent = refuses some }
     go Clear b = accepted-fits
 
 pub refusal-fits : (n : ℕ) → n < 32 → SmallVerdict (refusal n 0 0)
-refusal-fits n l = record { number_fits = l; p-fits = omega arith; q-fits = omega arith; silent = λ _. (refl, refl) }
+refusal-fits n l = record { number_fits = l; p_fits = omega arith; q_fits = omega arith; silent = λ _. (refl, refl) }
 
 pub sizes-fits : (h : Header) → SmallVerdict (sizes_verdict h)
 unfolding sizes_verdict
@@ -127,11 +127,11 @@ header-fits s =
 -- a refusal at an index of a table, or of the check list
 index-fits : (n k m p : ℕ) → n ≤ 2792 → 0 < m → m < 32 → p ≤ 1 → SmallVerdict (verdict_at n k (refusal m p k))
 index-fits n k m p u some l o =
-    at-fits n k (refusal m p k) (λ lk. record { number_fits = l; p-fits = omega arith; q-fits = omega arith; silent = refuses some })
+    at-fits n k (refusal m p k) (λ lk. record { number_fits = l; p_fits = omega arith; q_fits = omega arith; silent = refuses some })
 
 place-fits : (n k m : ℕ) → n ≤ 64 → 0 < m → m < 32 → SmallVerdict (verdict_at n k (refusal m k 0))
 place-fits n k m u some l =
-    at-fits n k (refusal m k 0) (λ lk. record { number_fits = l; p-fits = omega arith; q-fits = omega arith; silent = refuses some })
+    at-fits n k (refusal m k 0) (λ lk. record { number_fits = l; p_fits = omega arith; q_fits = omega arith; silent = refuses some })
 
 entries-fits : (c : Code) → c.n1 * c.b2 ≤ 2048 → c.n2 * c.b1 ≤ 2792 → SmallVerdict (entries_verdict c)
 unfolding entries_verdict
@@ -155,18 +155,18 @@ unfolding form_verdict code_of
 form-fits s =
     else-fits (header_verdict s) (entries_verdict (code_of s) or_else list_verdict (code_of s)) (header-fits s)
     (λ e. let p = (framed s e).small in
-    else-fits (entries_verdict (code_of s)) (list_verdict (code_of s)) (entries-fits (code_of s) p.row-positions p.column-positions)
-    (λ _. list-fits (code_of s) (omega (arith, p.rv-most, p.rh-most))))
+    else-fits (entries_verdict (code_of s)) (list_verdict (code_of s)) (entries-fits (code_of s) p.row_positions p.column_positions)
+    (λ _. list-fits (code_of s) (omega (arith, p.rv_most, p.rh_most))))
 
 conditions-fits : (c : Code) → Formed c → SmallVerdict (conditions_verdict c)
 unfolding conditions_verdict rows_verdict columns_verdict checks_verdict
 conditions-fits c F =
     else-fits (rows_verdict c) (columns_verdict c or_else checks_verdict c)
-    (pair_fits 8 (c.n1 - c.b1 + 1) (row_pair_free c) (λ i. i) (omega arith) (omega arith) (omega (arith, F.n1-most)) (λ k l. omega arith))
+    (pair_fits 8 (c.n1 - c.b1 + 1) (row_pair_free c) (λ i. i) (omega arith) (omega arith) (omega (arith, F.n1_most)) (λ k l. omega arith))
     (λ _. else-fits (columns_verdict c) (checks_verdict c)
-    (pair_fits 9 (c.n2 - c.b2 + 1) (column_pair_free c) (λ i. i + 1) (omega arith) (omega arith) (omega (arith, F.n2-most)) (λ k l. omega arith))
+    (pair_fits 9 (c.n2 - c.b2 + 1) (column_pair_free c) (λ i. i + 1) (omega arith) (omega arith) (omega (arith, F.n2_most)) (λ k l. omega arith))
     (λ _. place-fits (c.rv + c.rh) (least (c.rv + c.rh) (λ k. spanned k everyone (check_joint c) (check_joint c k))) 10
-    (omega (arith, F.rv-most, F.rh-most)) (omega arith) (omega arith)))
+    (omega (arith, F.rv_most, F.rh_most)) (omega arith) (omega arith)))
 
 pub plan-fits : (s : List ℕ) → SmallVerdict (plan_verdict s)
 unfolding plan_verdict

@@ -102,7 +102,7 @@ pub window-in : {n step size count : ℕ} → Windows n step size count → (j :
 window-in {n} {step} {size} {count} w j l = omega (arith, w.inside, mul-le-mul_right step l, suc-mul j step)
 
 pub windows-inside : {n step size count : ℕ} → Windows n step size count → (j : ℕ) → j < count → WindowIn n (j * step) size
-windows-inside w j l = record { size-pos = w.size-pos; size-most = w.size-most; inside = window-in w j l; few = w.few }
+windows-inside w j l = record { size_pos = w.size_pos; size_most = w.size_most; inside = window-in w j l; few = w.few }
 
 pub powers-row : (t : Table) (words : List ℕ) (step size count : ℕ) → Windows (length words) step size count → are_powers words ≡ true
     → first_failing (windows_free t (word_at words) step size) (start_of t) count
@@ -114,4 +114,4 @@ powers-row t words step size count w e =
     shifted : (i j : ℕ) → i ≤ j → j < count → windows_free t (word_at words) step size i j ≡ windows_free t (word_at words) step size 0 (j - i)
     shifted i j l u =
         let s = powers-stepped words e in
-        windows-shift (modulus_of words) s.odd (word_at words) (length words) s.step t step size i j w.size-pos l (window-in w j u)
+        windows-shift (modulus_of words) s.odd (word_at words) (length words) s.step t step size i j w.size_pos l (window-in w j u)

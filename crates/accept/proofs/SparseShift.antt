@@ -234,4 +234,4 @@ few-row t words step size count most w e =
         → few_free t (word_at words) most (length words) step size i j ≡ few_free t (word_at words) most (length words) step size 0 (j - i)
     shifted i j l u =
         let s = powers-stepped words e in
-        sparse-shift (modulus_of words) s.odd (word_at words) (length words) s.step most t step size i j w.size-pos l (window-in w j u)
+        sparse-shift (modulus_of words) s.odd (word_at words) (length words) s.step most t step size i j w.size_pos l (window-in w j u)

@@ -49,8 +49,8 @@ taken-small n words room small k l =
 windows-fit : (n b step : ℕ) → 1 ≤ b → b ≤ n → n ≤ 698 → 1 ≤ step → b * step ≤ 16 → n * step ≤ 2792
     → Windows (n * step) step (b * step) (n - b + 1)
 windows-fit n b step b1 bn few s1 size most = record {
-  size-pos = omega (arith, mul-le-mul_right step b1, suc-mul 0 step);
-  size-most = size;
+  size_pos = omega (arith, mul-le-mul_right step b1, suc-mul 0 step);
+  size_most = size;
   some = omega arith;
   most = omega arith;
   inside =
@@ -61,11 +61,11 @@ windows-fit n b step b1 bn few s1 size most = record {
 
 pub table-windows : (h : Header) → Small h → (t : Table) → Windows (entries_of h t) (step_of h t) (window_size h t) (windows_of h t)
 table-windows h p Rows =
-    windows-fit h.n1 h.b1 h.b2 p.b1-pos p.n1-least (omega (arith, p.n1-most)) p.b2-pos p.box-positions
-    (omega (arith, p.row-positions))
+    windows-fit h.n1 h.b1 h.b2 p.b1_pos p.n1_least (omega (arith, p.n1_most)) p.b2_pos p.box_positions
+    (omega (arith, p.row_positions))
 table-windows h p Columns =
-    windows-fit h.n2 h.b2 h.b1 p.b2-pos p.n2-least p.n2-most p.b1-pos
-    (omega (arith, p.box-positions, mul_comm h.b2 h.b1)) p.column-positions
+    windows-fit h.n2 h.b2 h.b1 p.b2_pos p.n2_least p.n2_most p.b1_pos
+    (omega (arith, p.box_positions, mul_comm h.b2 h.b1)) p.column_positions
 
 -- equal entries have the same pairs
 module _ (f g : ℕ → ℕ) (n : ℕ) (same : (k : ℕ) → k < n → f k ≡ g k) where
@@ -102,8 +102,8 @@ module _ (f g : ℕ → ℕ) (n : ℕ) (same : (k : ℕ) → k < n → f k ≡ g
       pairs-equal (table_pass t f most n step size) (table_pass t g most n step size) (start_of t) count
       (λ i j li l u.
       let m : i ≤ j = (let b = start-from t i in omega arith) in
-      ap₂ (λ (x y : Bool). cond (eqb most 0) x y) (pair-equal t size (i * step) (j * step) w.size-pos (mul-le-mul_right step m) (window-in w j u))
-      (sparse-equal t most size (i * step) (j * step) w.size-pos (window-in w i li)))
+      ap₂ (λ (x y : Bool). cond (eqb most 0) x y) (pair-equal t size (i * step) (j * step) w.size_pos (mul-le-mul_right step m) (window-in w j u))
+      (sparse-equal t most size (i * step) (j * step) w.size_pos (window-in w i li)))
 
 -- by what t is
 pub pass-any : (t : Table) (f : ℕ → ℕ) (most n step size : ℕ) → most ≡ 0 → table_pass t f most n step size ≡ windows_free t f step size
@@ -124,13 +124,13 @@ table-condition h p Rows v w row column f same =
     ap (pair_verdict 8)
     (windows-equal f v (h.n1 * h.b2) same Rows h.t _ _ _ (table-windows h p Rows)
     ∙ pairs-equal (windows_pass h Rows v) (row_pair_free c) (λ i. i) (h.n1 - h.b1 + 1)
-    (λ i j _ l u. sym (row-pair h v w row column p.b2-pos i j l (omega (arith, p.n1-least)))))
+    (λ i j _ l u. sym (row-pair h v w row column p.b2_pos i j l (omega (arith, p.n1_least)))))
 table-condition h p Columns v w row column f same =
     let c = code_from h v w row column in
     ap (pair_verdict 9)
     (windows-equal f w (h.n2 * h.b1) same Columns h.t _ _ _ (table-windows h p Columns)
     ∙ pairs-equal (windows_pass h Columns w) (column_pair_free c) (λ a. a + 1) (h.n2 - h.b2 + 1)
-    (λ i j _ l u. sym (column-pair h v w row column p.b1-pos p.b2-pos i j (omega arith) (omega (arith, p.n2-least)))))
+    (λ i j _ l u. sym (column-pair h v w row column p.b1_pos p.b2_pos i j (omega arith) (omega (arith, p.n2_least)))))
 
 pub plan-condition : (s : List ℕ) (h : Header) → Small h → (t : Table) (words : List ℕ) → EntriesIn s h t words
     → table_verdict h t (word_at words) ≡ condition_of (code_with s h) t

@@ -75,14 +75,14 @@ start_of Rows i = i
 start_of Columns i = i + 1
 
 pub record WindowIn (n a size : ℕ) : Type 0 where
-  pub size-pos : 1 ≤ size
-  pub size-most : size ≤ 16
+  pub size_pos : 1 ≤ size
+  pub size_most : size ≤ 16
   pub inside : a + size ≤ n
   pub few : n ≤ 2792
 
 pub record Windows (n step size count : ℕ) : Type 0 where
-  pub size-pos : 1 ≤ size
-  pub size-most : size ≤ 16
+  pub size_pos : 1 ≤ size
+  pub size_most : size ≤ 16
   pub some : 1 ≤ count
   pub most : count ≤ 698
   pub inside : count * step + size ≤ n + step
@@ -101,15 +101,15 @@ pub record Reduced (words : List ℕ) (size a : ℕ) (rest : List ℕ) : Type 0 
 
 -- windows after window i whose sets, from the place floor on, can be asked for
 pub record Later (step size count i floor : ℕ) : Type 0 where
-  pub step-most : step ≤ size
+  pub step_most : step ≤ size
   pub here : i < count
-  pub floor-most : floor ≤ i * step + size
+  pub floor_most : floor ≤ i * step + size
 
 -- sets of at most t entries, t being 1 or 2, of the windows from window i on
 pub record FewWindows (t step size count i : ℕ) : Type 0 where
   pub some : 1 ≤ t
   pub few : t ≤ 2
-  pub step-most : step ≤ size
+  pub step_most : step ≤ size
   pub here : i < count
 
 pub record Prepared (t : Table) (words : List ℕ) (size a taken : ℕ) (rest : List ℕ) : Type 0 where

@@ -143,14 +143,14 @@ pub fields-range : (a : ℕ) → InRange (fields_in a)
 unfolding number_in p_in q_in cells_in top_in left_in height_in width_in pattern_in
 fields-range a = record {
   number_fits = omega arith;
-  p-fits = refusal-below a _ 65536 (omega arith);
-  q-fits = refusal-below a _ 4096 (omega arith);
-  cells-fits = success-below a _ 32 (omega arith);
-  top-fits = success-below a _ 512 (omega arith);
-  left-fits = success-below a _ 1024 (omega arith);
-  height-fits = success-below a _ 8 (omega arith);
+  p_fits = refusal-below a _ 65536 (omega arith);
+  q_fits = refusal-below a _ 4096 (omega arith);
+  cells_fits = success-below a _ 32 (omega arith);
+  top_fits = success-below a _ 512 (omega arith);
+  left_fits = success-below a _ 1024 (omega arith);
+  height_fits = success-below a _ 8 (omega arith);
   width_fits = success-below a _ 8 (omega arith);
-  pattern-fits = success-below a _ 65536 (omega arith);
+  pattern_fits = success-below a _ 65536 (omega arith);
 }
 
 -- ---- a part of a buffer

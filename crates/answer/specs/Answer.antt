@@ -46,14 +46,14 @@ places_fields number p q = record { number = number; p = p; q = q; cells = 0; to
 
 pub record InRange (f : Fields) : Type 0 where
   pub number_fits : f.number < 32
-  pub p-fits : f.p < 65536
-  pub q-fits : f.q < 4096
-  pub cells-fits : f.cells < 32
-  pub top-fits : f.top < 512
-  pub left-fits : f.left < 1024
-  pub height-fits : f.height < 8
+  pub p_fits : f.p < 65536
+  pub q_fits : f.q < 4096
+  pub cells_fits : f.cells < 32
+  pub top_fits : f.top < 512
+  pub left_fits : f.left < 1024
+  pub height_fits : f.height < 8
   pub width_fits : f.width < 8
-  pub pattern-fits : f.pattern < 65536
+  pub pattern_fits : f.pattern < 65536
 
 -- a success has no places, and a refusal no report: so the two may share bits
 pub record Exclusive (f : Fields) : Type 0 where

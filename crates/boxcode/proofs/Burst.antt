@@ -29,12 +29,12 @@ module _ (c : Code) where
   pub burst-on : (e : Cells) → Burst c e → OnSheet c e
   burst-on e B = record {
     rows = λ i j t.
-        let l : i < B.top + c.b1 = B.inside.row-to i j t in
+        let l : i < B.top + c.b1 = B.inside.row_to i j t in
         let on : B.top + c.b1 ≤ c.n1 = B.rows_on in
         omega arith;
     columns = λ i j t.
-        let l : j < B.left + c.b2 = B.inside.column-to i j t in
-        let on : B.left + c.b2 ≤ c.n2 = B.columns-on in
+        let l : j < B.left + c.b2 = B.inside.column_to i j t in
+        let on : B.left + c.b2 ≤ c.n2 = B.columns_on in
         omega arith;
   }
 
@@ -49,13 +49,13 @@ module _ (c : Code) where
   burst-none F = record {
     top = 0;
     left = 0;
-    rows_on = let l : c.b1 ≤ c.n1 = F.n1-least in omega arith;
-    columns-on = let l : c.b2 ≤ c.n2 = F.n2-least in omega arith;
+    rows_on = let l : c.b1 ≤ c.n1 = F.n1_least in omega arith;
+    columns_on = let l : c.b2 ≤ c.n2 = F.n2_least in omega arith;
     inside = record {
       row_from = λ i j t. clash t refl;
-      row-to = λ i j t. clash t refl;
-      column-from = λ i j t. clash t refl;
-      column-to = λ i j t. clash t refl;
+      row_to = λ i j t. clash t refl;
+      column_from = λ i j t. clash t refl;
+      column_to = λ i j t. clash t refl;
     };
     sparse = most-few c.t (cell_count c.n1 c.n2 (λ i j. false)) (omega (arith, cells-none c.n1 c.n2 (λ i j. false) (λ i j li lj. refl)));
   }
@@ -65,10 +65,10 @@ module _ (c : Code) where
   fits-row s e f = xor-cancel (row_syndrome c s) (row_syndrome c e) (sym (row-flip c s e) ∙ f.row_zero)
 
   pub fits-column : (s e : Cells) → Fits c s e → column_syndrome c s ≡ column_syndrome c e
-  fits-column s e f = xor-cancel (column_syndrome c s) (column_syndrome c e) (sym (column-flip c s e) ∙ f.column-zero)
+  fits-column s e f = xor-cancel (column_syndrome c s) (column_syndrome c e) (sym (column-flip c s e) ∙ f.column_zero)
 
   pub sums-fit : (s e : Cells) → row_syndrome c s ≡ row_syndrome c e → column_syndrome c s ≡ column_syndrome c e → Fits c s e
   sums-fit s e p q = record {
     row_zero = row-flip c s e ∙ ap (λ (x : ℕ). x ⊕ row_syndrome c e) p ∙ xor_self (row_syndrome c e);
-    column-zero = column-flip c s e ∙ ap (λ (x : ℕ). x ⊕ column_syndrome c e) q ∙ xor_self (column_syndrome c e);
+    column_zero = column-flip c s e ∙ ap (λ (x : ℕ). x ⊕ column_syndrome c e) q ∙ xor_self (column_syndrome c e);
   }

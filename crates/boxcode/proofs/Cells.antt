@@ -39,14 +39,14 @@ box-rows top left height width e on zero m = omega arith
 box-rows top left height width e on (suc n) m = go (true-or-false (any_below m (e n))) (box-rows top left height width e on n m)
   where
     row : count_below m (e n) ≤ width
-    row = (count-run left width (e n) (λ j t. on.column-from n j t) (λ j t. on.column-to n j t) m).1
+    row = (count-run left width (e n) (λ j t. on.column_from n j t) (λ j t. on.column_to n j t) m).1
 
     go : Truth (any_below m (e n)) → (cell_count n m e ≤ (n - top) * width) × (cell_count n m e ≤ height * width)
         → (cell_count n m e + count_below m (e n) ≤ (suc n - top) * width) × (cell_count n m e + count_below m (e n) ≤ height * width)
     go (is_true t) ih =
         let w = any_found m (e n) t in
         let f : top ≤ n = on.row_from n w.0 w.2 in
-        let g : n < top + height = on.row-to n w.0 w.2 in
+        let g : n < top + height = on.row_to n w.0 w.2 in
         let r : count_below m (e n) ≤ width = row in
         let k : suc (n - top) ≤ height = omega arith in
         let p : suc (n - top) * width ≤ height * width = mul-le-mul_right width k in

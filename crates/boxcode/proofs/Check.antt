@@ -119,11 +119,11 @@ module _ (c : Code) (F : Formed c) where
     where
       go : Dec (k ≡ l) → (k < l → l < c.rv + c.rh → check_number c k < check_number c l) → check_number c k < check_number c (suc l)
       go (yes e) ih =
-          let up : check_number c l < check_number c (suc l) = F.check-rising l b in
+          let up : check_number c l < check_number c (suc l) = F.check_rising l b in
           let q : check_number c k ≡ check_number c l = ap (check_number c) e in
           omega arith
       go (no ne) ih =
-          let up : check_number c l < check_number c (suc l) = F.check-rising l b in
+          let up : check_number c l < check_number c (suc l) = F.check_rising l b in
           let q : check_number c k < check_number c l = ih (omega arith) (omega arith) in
           omega arith
 
@@ -131,7 +131,7 @@ module _ (c : Code) (F : Formed c) where
   check-listed = record { below = below; different = different }
     where
       below : (k : ℕ) → k < c.rv + c.rh → check_number c k < c.n1 * c.n2
-      below k l = unfold check_number in number-on c (c.check_row k) (c.check_column k) (F.check-columns k l) (F.check-rows k l)
+      below k l = unfold check_number in number-on c (c.check_row k) (c.check_column k) (F.check_columns k l) (F.check_rows k l)
 
       different : (k l : ℕ) → k < c.rv + c.rh → l < c.rv + c.rh → check_number c k ≡ check_number c l → k ≡ l
       different k l lk ll e = go (dec_lt k l) (dec_lt l k)
@@ -143,11 +143,11 @@ module _ (c : Code) (F : Formed c) where
 
   pub check-row : (k : ℕ) → k < c.rv + c.rh → check_number c k / c.n2 ≡ c.check_row k
   unfolding check_number
-  check-row k l = number-row c (c.check_row k) (c.check_column k) (F.check-columns k l)
+  check-row k l = number-row c (c.check_row k) (c.check_column k) (F.check_columns k l)
 
   pub check-column : (k : ℕ) → k < c.rv + c.rh → check_number c k % c.n2 ≡ c.check_column k
   unfolding check_number
-  check-column k l = number-column c (c.check_row k) (c.check_column k) (F.check-columns k l)
+  check-column k l = number-column c (c.check_row k) (c.check_column k) (F.check_columns k l)
 
   pub check-here : (k : ℕ) → k < c.rv + c.rh → check_at c (check_number c k) ≡ true
   unfolding check_at

@@ -79,7 +79,7 @@ module _ (c : Code) (K : Conditions c) where
           k lk)
       go (no z) =
           let pos : 1 ≤ c.t = omega arith in
-          K.sparse-rows pos i i' l f m m' w w' (few-most c.t (count_below (c.n1 * c.b2) m) pos u)
+          K.sparse_rows pos i i' l f m m' w w' (few-most c.t (count_below (c.n1 * c.b2) m) pos u)
           (few-most c.t (count_below (c.n1 * c.b2) m') pos u') s k lk
 
   -- for any two windows, in either order
@@ -98,7 +98,7 @@ module _ (c : Code) (K : Conditions c) where
     where
       go : Dec (c.t ≡ 0) → m x ≡ false
       go (yes z) = K.columns z a a' l f m w s x lx
-      go (no z) = let pos : 1 ≤ c.t = omega arith in K.sparse-columns pos a a' l f m w (few-most c.t (count_below (c.b2 * c.b1) m) pos u) s x lx
+      go (no z) = let pos : 1 ≤ c.t = omega arith in K.sparse_columns pos a a' l f m w (few-most c.t (count_below (c.b2 * c.b1) m) pos u) s x lx
 
   -- for any two strips; of the same strip twice nothing is a member
   pub columns-apart : (a a' : ℕ) → a + c.b2 ≤ c.n2 → a' + c.b2 ≤ c.n2 → (m : ℕ → Bool) → Within m (column_member c a a') → Few c (c.b2 * c.b1) m
@@ -134,8 +134,8 @@ module _ (c : Code) (F : Formed c) (K : Conditions c) where
     member-same : (x : ℕ) → x < c.b2 * c.b1 → member_cell c top a e x ≡ member_cell c top a' e' x
     unfolding member_cell
     member-same x l =
-        let t : place c.b1 top (x % c.b1) < top + c.b1 = place-to c.b1 top F.b1-pos (x % c.b1) in
-        same_at c F a a' e e' same (place c.b1 top (x % c.b1)) (x / c.b1) (omega arith) ((div-lt_iff_lt-mul F.b1-pos).1 l)
+        let t : place c.b1 top (x % c.b1) < top + c.b1 = place-to c.b1 top F.b1_pos (x % c.b1) in
+        same_at c F a a' e e' same (place c.b1 top (x % c.b1)) (x / c.b1) (omega arith) ((div-lt_iff_lt-mul F.b1_pos).1 l)
 
     none : chosen_sum (c.b2 * c.b1) (λ x. column_member c a a' x && member_cell c top a e x) (column_difference c a a') ≡ 0
     unfolding column_difference
@@ -170,14 +170,14 @@ module _ (c : Code) (F : Formed c) (K : Conditions c) where
 
     cell_stays : (i j : ℕ) → e i j ≡ true → e' i j ≡ true
     cell_stays i j t =
-        let u : i < top + c.b1 = on.row-to i j t in
-        ap (e' i) (sym home ∙ stays) ∙ sym (same_at c F a a' e e' same i (j % c.b2) (omega arith) (mod-lt j F.b2-pos)) ∙ ap (e i) home ∙ t
+        let u : i < top + c.b1 = on.row_to i j t in
+        ap (e' i) (sym home ∙ stays) ∙ sym (same_at c F a a' e e' same i (j % c.b2) (omega arith) (mod-lt j F.b2_pos)) ∙ ap (e i) home ∙ t
       where
         x : ℕ
         x = j % c.b2 * c.b1 + i % c.b1
 
         qx : x / c.b1 ≡ j % c.b2
-        qx = digits_div (j % c.b2) (mod-lt i F.b1-pos)
+        qx = digits_div (j % c.b2) (mod-lt i F.b1_pos)
 
         home : place c.b2 a (j % c.b2) ≡ j
         home = cell-home c F top a f g e on i j t
@@ -186,7 +186,7 @@ module _ (c : Code) (F : Formed c) (K : Conditions c) where
         chosen =
             columns-apart c K a a' g g' (λ x. column_member c a a' x && member_cell c top a e x)
             (λ x. and_left (column_member c a a' x) (member_cell c top a e x)) fewer none
-            x (digits_lt (mod-lt j F.b2-pos) (mod-lt i F.b1-pos))
+            x (digits_lt (mod-lt j F.b2_pos) (mod-lt i F.b1_pos))
 
         no_member : column_member c a a' x ≡ false
         no_member =
@@ -200,24 +200,24 @@ module _ (c : Code) (F : Formed c) (K : Conditions c) where
       → column_syndrome c e ≡ column_syndrome c e' → SameCells c e e'
   columns-separate e e' B B' same q i j li lj =
       same_truth (e i j) (e' i j)
-      (cell_stays B.top B.left B'.left e e' B.inside moved B.rows_on B.columns-on B'.columns-on same q B.sparse i j)
-      (cell_stays B.top B'.left B.left e' e moved B.inside B.rows_on B'.columns-on B.columns-on (λ k l. sym (same k l)) (sym q)
+      (cell_stays B.top B.left B'.left e e' B.inside moved B.rows_on B.columns_on B'.columns_on same q B.sparse i j)
+      (cell_stays B.top B'.left B.left e' e moved B.inside B.rows_on B'.columns_on B.columns_on (λ k l. sym (same k l)) (sym q)
       B'.sparse i j)
     where
       -- a cell of e' is in a row of e
       back : (i j : ℕ) → e' i j ≡ true → e i (place c.b2 B.left (j % c.b2)) ≡ true
       back i j t =
-          let l : i < B'.top + c.b1 = B'.inside.row-to i j t in
+          let l : i < B'.top + c.b1 = B'.inside.row_to i j t in
           let on : B'.top + c.b1 ≤ c.n1 = B'.rows_on in
-          same_at c F B.left B'.left e e' same i (j % c.b2) (omega arith) (mod-lt j F.b2-pos)
-          ∙ ap (e' i) (place_is c.b2 B'.left F.b2-pos j (B'.inside.column-from i j t) (B'.inside.column-to i j t)) ∙ t
+          same_at c F B.left B'.left e e' same i (j % c.b2) (omega arith) (mod-lt j F.b2_pos)
+          ∙ ap (e' i) (place_is c.b2 B'.left F.b2_pos j (B'.inside.column_from i j t) (B'.inside.column_to i j t)) ∙ t
 
       moved : Inside B.top B'.left c.b1 c.b2 e'
       moved = record {
         row_from = λ i j t. B.inside.row_from i (place c.b2 B.left (j % c.b2)) (back i j t);
-        row-to = λ i j t. B.inside.row-to i (place c.b2 B.left (j % c.b2)) (back i j t);
-        column-from = B'.inside.column-from;
-        column-to = B'.inside.column-to;
+        row_to = λ i j t. B.inside.row_to i (place c.b2 B.left (j % c.b2)) (back i j t);
+        column_from = B'.inside.column_from;
+        column_to = B'.inside.column_to;
       }
 
   pub separated : Separated c

@@ -32,7 +32,7 @@ module _ (c : Code) (F : Formed c) (K : Conditions c) (any : c.t ≡ 0) where
   -- the windows at rows 0 and b1 hold the first 2 × b1 × b2 positions
   first_member : (k : ℕ) → k < 2 * c.b1 * c.b2 → row_member c 0 c.b1 k ≡ true
   unfolding row_member
-  first_member k l = go (dec_lt (k / c.b2) c.b1) ((div-lt_iff_lt-mul F.b2-pos).1 l)
+  first_member k l = go (dec_lt (k / c.b2) c.b1) ((div-lt_iff_lt-mul F.b2_pos).1 l)
     where
       go : Dec (k / c.b2 < c.b1) → k / c.b2 < 2 * c.b1 → (within 0 c.b1 (k / c.b2) || within c.b1 c.b1 (k / c.b2)) ≡ true
       go (yes u) t =
@@ -45,30 +45,30 @@ module _ (c : Code) (F : Formed c) (K : Conditions c) (any : c.t ≡ 0) where
   row-floor l =
       let n = 2 * c.b1 * c.b2 in
       let m : n ≤ c.n1 * c.b2 = mul-le-mul_right c.b2 l in
-      independent-most c.rv n (row_member c 0 c.b1) c.row_entry (omega (arith, F.rv-most)) first_member
-      (λ k lk. F.row-entries k (omega arith))
+      independent-most c.rv n (row_member c 0 c.b1) c.row_entry (omega (arith, F.rv_most)) first_member
+      (λ k lk. F.row_entries k (omega arith))
       (independent-first (c.n1 * c.b2) n (row_member c 0 c.b1) c.row_entry m (K.rows any 0 c.b1 (omega arith) (omega arith)))
 
   -- in the strips at columns 0 and b2 no remainder stands on one column
   all-member : (x : ℕ) → column_member c 0 c.b2 x ≡ true
   all-member x =
       apart-member c 0 c.b2 x
-      (λ e. absurd (omega (arith, place-to c.b2 0 F.b2-pos (x / c.b1), place-from c.b2 c.b2 F.b2-pos (x / c.b1))))
+      (λ e. absurd (omega (arith, place-to c.b2 0 F.b2_pos (x / c.b1), place-from c.b2 c.b2 F.b2_pos (x / c.b1))))
 
   strip-below : (a x : ℕ) → a + c.b2 ≤ c.n2 → strip_entry c a x < 2 ^ c.rh
   unfolding strip_entry
   strip-below a x f =
-      let p : place c.b2 a (x / c.b1) < c.n2 = omega (arith, place-to c.b2 a F.b2-pos (x / c.b1)) in
-      F.column-entries (place c.b2 a (x / c.b1) * c.b1 + x % c.b1) (digits_lt p (mod-lt x F.b1-pos))
+      let p : place c.b2 a (x / c.b1) < c.n2 = omega (arith, place-to c.b2 a F.b2_pos (x / c.b1)) in
+      F.column_entries (place c.b2 a (x / c.b1) * c.b1 + x % c.b1) (digits_lt p (mod-lt x F.b1_pos))
 
   pub column-floor : 2 * c.b2 ≤ c.n2 → c.b1 * c.b2 ≤ c.rh
   unfolding column_difference
   column-floor l =
       let m : c.b2 * c.b1 ≤ c.rh =
-      independent-most c.rh (c.b2 * c.b1) (column_member c 0 c.b2) (column_difference c 0 c.b2) (omega (arith, F.rh-most))
+      independent-most c.rh (c.b2 * c.b1) (column_member c 0 c.b2) (column_difference c 0 c.b2) (omega (arith, F.rh_most))
       (λ x lx. all-member x)
       (λ x lx. xor_below c.rh (strip_entry c 0 x) (strip_entry c c.b2 x) (strip-below 0 x (omega arith)) (strip-below c.b2 x (omega arith)))
-      (K.columns any 0 c.b2 (omega (arith, F.b2-pos)) (omega arith)) in
+      (K.columns any 0 c.b2 (omega (arith, F.b2_pos)) (omega arith)) in
       omega arith
 
 pub checks-on : (c : Code) → Formed c → count_below (c.n1 * c.n2) (check_at c) ≡ c.rv + c.rh

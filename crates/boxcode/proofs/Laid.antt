@@ -41,12 +41,12 @@ module _ (c : Code) (F : Formed c) where
   unfolding laid
   laid-at p a i r l =
       ap₂ (λ (b : Bool) (x : ℕ). b && p (i * c.b2 + x))
-      (in_within a c.b2 (place c.b2 a r) (place-from c.b2 a F.b2-pos r) (place-to c.b2 a F.b2-pos r))
-      (place-mod c.b2 a F.b2-pos r l)
+      (in_within a c.b2 (place c.b2 a r) (place-from c.b2 a F.b2_pos r) (place-to c.b2 a F.b2_pos r))
+      (place-mod c.b2 a F.b2_pos r l)
 
   pub laid-pattern : (p : ℕ → Bool) (a k : ℕ) → pattern_of c a (laid c p a) k ≡ p k
   unfolding pattern_of
-  laid-pattern p a k = laid-at p a (k / c.b2) (k % c.b2) (mod-lt k F.b2-pos) ∙ ap p (div-add-mod' k c.b2)
+  laid-pattern p a k = laid-at p a (k / c.b2) (k % c.b2) (mod-lt k F.b2_pos) ∙ ap p (div-add-mod' k c.b2)
 
   -- a burst is its pattern, laid
   pub laid-back : (e : Cells) (B : Burst c e) (p : ℕ → Bool) → ((k : ℕ) → k < c.n1 * c.b2 → pattern_of c B.left e k ≡ p k)
@@ -59,15 +59,15 @@ module _ (c : Code) (F : Formed c) where
       sym (cell (within-from B.left c.b2 j w) (within-to B.left c.b2 j w))
       ∙ and_right (within B.left c.b2 j) (p (i * c.b2 + j % c.b2)) t)
       (λ t.
-      let from = B.inside.column-from i j t in
-      let to = B.inside.column-to i j t in
+      let from = B.inside.column_from i j t in
+      let to = B.inside.column_to i j t in
       and_both (within B.left c.b2 j) (p (i * c.b2 + j % c.b2)) (in_within B.left c.b2 j from to) (cell from to ∙ t))
     where
       cell : B.left ≤ j → j < B.left + c.b2 → p (i * c.b2 + j % c.b2) ≡ e i j
       cell from to =
-          sym (same (i * c.b2 + j % c.b2) (digits_lt li (mod-lt j F.b2-pos)))
-          ∙ pattern-at c F B.left e i (j % c.b2) (mod-lt j F.b2-pos)
-          ∙ ap (e i) (place_is c.b2 B.left F.b2-pos j from to)
+          sym (same (i * c.b2 + j % c.b2) (digits_lt li (mod-lt j F.b2_pos)))
+          ∙ pattern-at c F B.left e i (j % c.b2) (mod-lt j F.b2_pos)
+          ∙ ap (e i) (place_is c.b2 B.left F.b2_pos j from to)
 
   -- where no window has a pattern with the V sum, there is no burst
   pub none_found : (v h : ℕ)
@@ -86,14 +86,14 @@ module _ (c : Code) (F : Formed c) where
   unfolding laid
   laid-inside top a p w = record {
     row_from = λ i j t. within-from top c.b1 i (row i j t);
-    row-to = λ i j t. within-to top c.b1 i (row i j t);
-    column-from = λ i j t. within-from a c.b2 j (and_left (within a c.b2 j) (p (i * c.b2 + j % c.b2)) t);
-    column-to = λ i j t. within-to a c.b2 j (and_left (within a c.b2 j) (p (i * c.b2 + j % c.b2)) t);
+    row_to = λ i j t. within-to top c.b1 i (row i j t);
+    column_from = λ i j t. within-from a c.b2 j (and_left (within a c.b2 j) (p (i * c.b2 + j % c.b2)) t);
+    column_to = λ i j t. within-to a c.b2 j (and_left (within a c.b2 j) (p (i * c.b2 + j % c.b2)) t);
   }
     where
       row : (i j : ℕ) → laid c p a i j ≡ true → within top c.b1 i ≡ true
       row i j t =
-          sym (ap (within top c.b1) (digits_div i (mod-lt j F.b2-pos)))
+          sym (ap (within top c.b1) (digits_div i (mod-lt j F.b2_pos)))
           ∙ w (i * c.b2 + j % c.b2) (and_right (within a c.b2 j) (p (i * c.b2 + j % c.b2)) t)
 
   -- it has no more cells than the pattern has places
@@ -104,18 +104,18 @@ module _ (c : Code) (F : Formed c) where
       let l : count_below (c.n1 * c.n2) (λ t. laid c p a (t / c.n2) (t % c.n2)) ≤ count_below (c.n1 * c.b2) p =
       count-injects (c.n1 * c.n2) (c.n1 * c.b2) (λ t. laid c p a (t / c.n2) (t % c.n2)) p (λ t. t / c.n2 * c.b2 + t % c.n2 % c.b2)
       (λ t l e. (
-        digits_lt ((div-lt_iff_lt-mul columns-pos).1 l) (mod-lt (t % c.n2) F.b2-pos),
+        digits_lt ((div-lt_iff_lt-mul columns-pos).1 l) (mod-lt (t % c.n2) F.b2_pos),
         and_right (within a c.b2 (t % c.n2)) (p (t / c.n2 * c.b2 + t % c.n2 % c.b2)) e,
       ))
       (λ t u lt lu et eu q. one_number c.n2 t u
-      (sym (digits_div (t / c.n2) (mod-lt (t % c.n2) F.b2-pos)) ∙ ap (λ (k : ℕ). k / c.b2) q ∙ digits_div (u / c.n2) (mod-lt (u % c.n2) F.b2-pos))
-      (place-unique c.b2 a F.b2-pos (t % c.n2) (u % c.n2) (from t et) (to t et) (from u eu) (to u eu)
-      (sym (digits_mod (t / c.n2) (mod-lt (t % c.n2) F.b2-pos)) ∙ ap (λ (k : ℕ). k % c.b2) q ∙ digits_mod (u / c.n2)
-      (mod-lt (u % c.n2) F.b2-pos)))) in
+      (sym (digits_div (t / c.n2) (mod-lt (t % c.n2) F.b2_pos)) ∙ ap (λ (k : ℕ). k / c.b2) q ∙ digits_div (u / c.n2) (mod-lt (u % c.n2) F.b2_pos))
+      (place-unique c.b2 a F.b2_pos (t % c.n2) (u % c.n2) (from t et) (to t et) (from u eu) (to u eu)
+      (sym (digits_mod (t / c.n2) (mod-lt (t % c.n2) F.b2_pos)) ∙ ap (λ (k : ℕ). k % c.b2) q ∙ digits_mod (u / c.n2)
+      (mod-lt (u % c.n2) F.b2_pos)))) in
       omega arith
     where
       columns-pos : 0 < c.n2
-      columns-pos = omega (arith, F.b2-pos, F.n2-least)
+      columns-pos = omega (arith, F.b2_pos, F.n2_least)
 
       inside : (t : ℕ) → (within a c.b2 (t % c.n2) && p (t / c.n2 * c.b2 + t % c.n2 % c.b2)) ≡ true → within a c.b2 (t % c.n2) ≡ true
       inside t e = and_left (within a c.b2 (t % c.n2)) (p (t / c.n2 * c.b2 + t % c.n2 % c.b2)) e
@@ -133,7 +133,7 @@ module _ (c : Code) (F : Formed c) where
       top = top;
       left = a;
       rows_on = rows;
-      columns-on = columns;
+      columns_on = columns;
       inside = laid-inside top a p w;
       sparse = few-less c.t (cell_count c.n1 c.n2 (laid c p a)) (count_below (c.n1 * c.b2) p) (laid-count a p) s;
     }
@@ -154,7 +154,7 @@ module _ (c : Code) (F : Formed c) where
         → (k : ℕ) → k < c.n1 * c.b2 → pattern_of c B.left e k ≡ p k
     unfolding laid-burst
     pattern-only S e B q k l =
-        let on : 0 + c.b2 ≤ c.n2 = omega (arith, F.n2-least) in
+        let on : 0 + c.b2 ≤ c.n2 = omega (arith, F.n2_least) in
         S.rows e (laid c p 0) B (laid-burst 0 on) (q ∙ sym (laid-row 0 on)) k l ∙ laid-pattern p 0 k
 
     -- so a burst with that V sum is this pattern on a strip
@@ -166,6 +166,6 @@ module _ (c : Code) (F : Formed c) where
         let f = found c F v h t in
         let B = f.burst in (
           B.left,
-          B.columns-on,
+          B.columns_on,
           column-cells c (laid c p B.left) e (laid-back e B p (pattern-only S e B f.row)) ∙ f.column,
         )

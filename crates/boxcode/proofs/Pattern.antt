@@ -61,7 +61,7 @@ module _ (n m top left height width : ℕ) (hp : 0 < height) (wp : 0 < width) (r
       (λ i l. strip-sum m width left wp columns (weighed w e i) (λ j h. unpicked (e i j) (w i j) (off i j h)))
     where
       off : (i j : ℕ) → (left ≤ j → j < left + width → ⊥) → e i j ≡ false
-      off i j h = not-true (e i j) (λ t. h (on.column-from i j t) (on.column-to i j t))
+      off i j h = not-true (e i j) (λ t. h (on.column_from i j t) (on.column_to i j t))
 
   pub box-weight : weight_sum n m w e ≡ xor_sum width (λ r. xor_sum height (λ q. weighed w e (place height top q) (place width left r)))
   box-weight =
@@ -74,7 +74,7 @@ module _ (n m top left height width : ℕ) (hp : 0 < height) (wp : 0 < width) (r
       column r = place width left r
 
       off : (i j : ℕ) → (top ≤ i → i < top + height → ⊥) → e i j ≡ false
-      off i j h = not-true (e i j) (λ t. h (on.row_from i j t) (on.row-to i j t))
+      off i j h = not-true (e i j) (λ t. h (on.row_from i j t) (on.row_to i j t))
 
 -- a number is its quotient and its remainder
 pub one_number : (b k l : ℕ) → k / b ≡ l / b → k % b ≡ l % b → k ≡ l
@@ -97,7 +97,7 @@ module _ (c : Code) (F : Formed c) where
     pub row-pattern : row_syndrome c e ≡ chosen_sum (c.n1 * c.b2) (pattern_of c left e) c.row_entry
     unfolding row_syndrome row_weight
     row-pattern =
-        strip-weight c.n1 c.n2 top left c.b1 c.b2 F.b1-pos F.b2-pos rows columns (row_weight c) e on
+        strip-weight c.n1 c.n2 top left c.b1 c.b2 F.b1_pos F.b2_pos rows columns (row_weight c) e on
         ∙ sum-equal c.n1 (λ i. xor_sum c.b2 (λ r. weighed (row_weight c) e i (place c.b2 left r))) (λ i. xor_sum c.b2 (λ r. at (i * c.b2 + r)))
         (λ i l. sum-equal c.b2 (λ r. weighed (row_weight c) e i (place c.b2 left r)) (λ r. at (i * c.b2 + r)) (cell i))
         ∙ sym (sum-blocks c.n1 c.b2 at)
@@ -108,12 +108,12 @@ module _ (c : Code) (F : Formed c) where
         cell : (i r : ℕ) → r < c.b2 → weighed (row_weight c) e i (place c.b2 left r) ≡ at (i * c.b2 + r)
         cell i r l =
             ap₂ (λ (b : Bool) (x : ℕ). pick b (c.row_entry (i * c.b2 + x)))
-            (sym (pattern-at left e i r l)) (place-mod c.b2 left F.b2-pos r l)
+            (sym (pattern-at left e i r l)) (place-mod c.b2 left F.b2_pos r l)
 
     pub column-members : column_syndrome c e ≡ chosen_sum (c.b2 * c.b1) (member_cell c top left e) (strip_entry c left)
     unfolding column_syndrome column_weight strip_entry member_cell
     column-members =
-        box-weight c.n1 c.n2 top left c.b1 c.b2 F.b1-pos F.b2-pos rows columns (column_weight c) e on
+        box-weight c.n1 c.n2 top left c.b1 c.b2 F.b1_pos F.b2_pos rows columns (column_weight c) e on
         ∙ sum-equal c.b2 (λ r. xor_sum c.b1 (λ q. weighed (column_weight c) e (row q) (column r))) (λ r. xor_sum c.b1 (λ q. at (r * c.b1 + q)))
         (λ r l. sum-equal c.b1 (λ q. weighed (column_weight c) e (row q) (column r)) (λ q. at (r * c.b1 + q)) (cell r))
         ∙ sym (sum-blocks c.b2 c.b1 at)
@@ -132,19 +132,19 @@ module _ (c : Code) (F : Formed c) where
 
         cell : (r q : ℕ) → q < c.b1 → weighed (column_weight c) e (row q) (column r) ≡ at (r * c.b1 + q)
         cell r q l =
-            ap (λ (x : ℕ). pick (e (row q) (column r)) (c.column_entry (column r * c.b1 + x))) (place-mod c.b1 top F.b1-pos q l)
+            ap (λ (x : ℕ). pick (e (row q) (column r)) (c.column_entry (column r * c.b1 + x))) (place-mod c.b1 top F.b1_pos q l)
             ∙ sym (ap₂ member (digits_div r l) (digits_mod r l))
 
     -- a cell is the one of its pattern, and of its members
     pub cell-home : (i j : ℕ) → e i j ≡ true → place c.b2 left (j % c.b2) ≡ j
-    cell-home i j t = place_is c.b2 left F.b2-pos j (on.column-from i j t) (on.column-to i j t)
+    cell-home i j t = place_is c.b2 left F.b2_pos j (on.column_from i j t) (on.column_to i j t)
 
     pub cell-member : (i j : ℕ) → e i j ≡ true → member_cell c top left e (j % c.b2 * c.b1 + i % c.b1) ≡ true
     unfolding member_cell
     cell-member i j t =
-        ap₂ (λ (y z : ℕ). e (place c.b1 top y) (place c.b2 left z)) (digits_mod (j % c.b2) (mod-lt i F.b1-pos))
-        (digits_div (j % c.b2) (mod-lt i F.b1-pos))
-        ∙ ap₂ e (place_is c.b1 top F.b1-pos i (on.row_from i j t) (on.row-to i j t)) (cell-home i j t) ∙ t
+        ap₂ (λ (y z : ℕ). e (place c.b1 top y) (place c.b2 left z)) (digits_mod (j % c.b2) (mod-lt i F.b1_pos))
+        (digits_div (j % c.b2) (mod-lt i F.b1_pos))
+        ∙ ap₂ e (place_is c.b1 top F.b1_pos i (on.row_from i j t) (on.row_to i j t)) (cell-home i j t) ∙ t
 
   -- ---- how many
 
@@ -157,10 +157,10 @@ module _ (c : Code) (F : Formed c) where
 
   module _ (left : ℕ) (columns : left + c.b2 ≤ c.n2) (e : Cells) where
     column-on : (r : ℕ) → place c.b2 left r < c.n2
-    column-on r = omega (arith, place-to c.b2 left F.b2-pos r)
+    column-on r = omega (arith, place-to c.b2 left F.b2_pos r)
 
     column-one : (r r' : ℕ) → r < c.b2 → r' < c.b2 → place c.b2 left r ≡ place c.b2 left r' → r ≡ r'
-    column-one r r' l l' e = sym (place-mod c.b2 left F.b2-pos r l) ∙ ap (λ (x : ℕ). x % c.b2) e ∙ place-mod c.b2 left F.b2-pos r' l'
+    column-one r r' l l' e = sym (place-mod c.b2 left F.b2_pos r l) ∙ ap (λ (x : ℕ). x % c.b2) e ∙ place-mod c.b2 left F.b2_pos r' l'
 
     pub pattern-count : count_below (c.n1 * c.b2) (pattern_of c left e) ≤ cell_count c.n1 c.n2 e
     unfolding pattern_of
@@ -170,21 +170,21 @@ module _ (c : Code) (F : Formed c) where
         count-injects (c.n1 * c.b2) (c.n1 * c.n2) (pattern_of c left e) (λ t. e (t / c.n2) (t % c.n2))
         (λ k. k / c.b2 * c.n2 + place c.b2 left (k % c.b2))
         (λ k l t. (
-          digits_lt ((div-lt_iff_lt-mul F.b2-pos).1 l) (column-on (k % c.b2)),
+          digits_lt ((div-lt_iff_lt-mul F.b2_pos).1 l) (column-on (k % c.b2)),
           ap₂ e (digits_div (k / c.b2) (column-on (k % c.b2))) (digits_mod (k / c.b2) (column-on (k % c.b2))) ∙ t,
         ))
         (λ k l lk ll tk tl q.
         let p = one_cell (k / c.b2) (l / c.b2) (place c.b2 left (k % c.b2)) (place c.b2 left (l % c.b2)) (column-on (k % c.b2))
         (column-on (l % c.b2)) q in
-        one_number c.b2 k l p.0 (column-one (k % c.b2) (l % c.b2) (mod-lt k F.b2-pos) (mod-lt l F.b2-pos) p.1)) in
+        one_number c.b2 k l p.0 (column-one (k % c.b2) (l % c.b2) (mod-lt k F.b2_pos) (mod-lt l F.b2_pos) p.1)) in
         omega arith
 
     module _ (top : ℕ) (rows : top + c.b1 ≤ c.n1) where
       row_on : (r : ℕ) → place c.b1 top r < c.n1
-      row_on r = omega (arith, place-to c.b1 top F.b1-pos r)
+      row_on r = omega (arith, place-to c.b1 top F.b1_pos r)
 
       row_one : (r r' : ℕ) → r < c.b1 → r' < c.b1 → place c.b1 top r ≡ place c.b1 top r' → r ≡ r'
-      row_one r r' l l' e = sym (place-mod c.b1 top F.b1-pos r l) ∙ ap (λ (x : ℕ). x % c.b1) e ∙ place-mod c.b1 top F.b1-pos r' l'
+      row_one r r' l l' e = sym (place-mod c.b1 top F.b1_pos r l) ∙ ap (λ (x : ℕ). x % c.b1) e ∙ place-mod c.b1 top F.b1_pos r' l'
 
       pub member-count : count_below (c.b2 * c.b1) (member_cell c top left e) ≤ cell_count c.n1 c.n2 e
       unfolding member_cell
@@ -201,8 +201,8 @@ module _ (c : Code) (F : Formed c) where
           let p = one_cell (place c.b1 top (x % c.b1)) (place c.b1 top (y % c.b1)) (place c.b2 left (x / c.b1)) (place c.b2 left (y / c.b1))
           (column-on (x / c.b1)) (column-on (y / c.b1)) q in
           one_number c.b1 x y
-          (column-one (x / c.b1) (y / c.b1) ((div-lt_iff_lt-mul F.b1-pos).1 lx) ((div-lt_iff_lt-mul F.b1-pos).1 ly) p.1)
-          (row_one (x % c.b1) (y % c.b1) (mod-lt x F.b1-pos) (mod-lt y F.b1-pos) p.0)) in
+          (column-one (x / c.b1) (y / c.b1) ((div-lt_iff_lt-mul F.b1_pos).1 lx) ((div-lt_iff_lt-mul F.b1_pos).1 ly) p.1)
+          (row_one (x % c.b1) (y % c.b1) (mod-lt x F.b1_pos) (mod-lt y F.b1_pos) p.0)) in
           omega arith
 
   -- the pattern of a burst is in its window, and has its V sum
@@ -211,12 +211,12 @@ module _ (c : Code) (F : Formed c) where
   pattern-window e B k t =
       let i = k / c.b2 in
       let j = place c.b2 B.left (k % c.b2) in
-      in_within B.top c.b1 i (B.inside.row_from i j t) (B.inside.row-to i j t)
+      in_within B.top c.b1 i (B.inside.row_from i j t) (B.inside.row_to i j t)
 
   pub pattern-few : (e : Cells) (B : Burst c e) → few c.t (count_below (c.n1 * c.b2) (pattern_of c B.left e)) ≡ true
   pattern-few e B =
       few-less c.t (count_below (c.n1 * c.b2) (pattern_of c B.left e)) (cell_count c.n1 c.n2 e)
-      (pattern-count B.left B.columns-on e) B.sparse
+      (pattern-count B.left B.columns_on e) B.sparse
 
   pub burst-row : (e : Cells) (B : Burst c e) → row_syndrome c e ≡ chosen_sum (c.n1 * c.b2) (pattern_of c B.left e) c.row_entry
-  burst-row e B = row-pattern B.top B.left B.rows_on B.columns-on e B.inside
+  burst-row e B = row-pattern B.top B.left B.rows_on B.columns_on e B.inside

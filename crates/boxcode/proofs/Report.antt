@@ -115,15 +115,15 @@ number-none top left height width e z =
 
 -- the numbers of a report of a burst, in their ranges
 pub record SmallReport (c : Code) (r : Report) : Type 0 where
-  pub cells-box : r.cells ≤ c.b1 * c.b2
-  pub cells-most : r.cells ≤ 16
-  pub top-on : r.top < c.n1
-  pub left-on : r.left < c.n2
-  pub height-most : r.height ≤ c.b1
-  pub width-most : r.width ≤ c.b2
+  pub cells_box : r.cells ≤ c.b1 * c.b2
+  pub cells_most : r.cells ≤ 16
+  pub top_on : r.top < c.n1
+  pub left_on : r.left < c.n2
+  pub height_most : r.height ≤ c.b1
+  pub width_most : r.width ≤ c.b2
   pub rows_on : r.top + r.height ≤ c.n1
-  pub columns-on : r.left + r.width ≤ c.n2
-  pub pattern-most : r.pattern < 65536
+  pub columns_on : r.left + r.width ≤ c.n2
+  pub pattern_most : r.pattern < 65536
 
 module _ (c : Code) where
   row_has : (e : Cells) (i j : ℕ) → j < c.n2 → e i j ≡ true → row_touched c e i ≡ true
@@ -174,9 +174,9 @@ module _ (c : Code) where
   unfolding report_of
   report-inside e on = record {
     row_from = λ i j t. (run_inside c.n1 (row_touched c e) i (on.rows i j t) (row_has e i j (on.columns i j t) t)).0;
-    row-to = λ i j t. (run_inside c.n1 (row_touched c e) i (on.rows i j t) (row_has e i j (on.columns i j t) t)).1;
-    column-from = λ i j t. (run_inside c.n2 (column_touched c e) j (on.columns i j t) (column-has e i j (on.rows i j t) t)).0;
-    column-to = λ i j t. (run_inside c.n2 (column_touched c e) j (on.columns i j t) (column-has e i j (on.rows i j t) t)).1;
+    row_to = λ i j t. (run_inside c.n1 (row_touched c e) i (on.rows i j t) (row_has e i j (on.columns i j t) t)).1;
+    column_from = λ i j t. (run_inside c.n2 (column_touched c e) j (on.columns i j t) (column-has e i j (on.rows i j t) t)).0;
+    column_to = λ i j t. (run_inside c.n2 (column_touched c e) j (on.columns i j t) (column-has e i j (on.rows i j t) t)).1;
   }
 
   module _ (top left height width : ℕ) (e : Cells) (in-box : Inside top left height width e) where
@@ -184,13 +184,13 @@ module _ (c : Code) where
     from_row i t = let w = has-row e i t in in-box.row_from i w.0 w.2
 
     to_row : (i : ℕ) → row_touched c e i ≡ true → i < top + height
-    to_row i t = let w = has-row e i t in in-box.row-to i w.0 w.2
+    to_row i t = let w = has-row e i t in in-box.row_to i w.0 w.2
 
     from-column : (j : ℕ) → column_touched c e j ≡ true → left ≤ j
-    from-column j t = let w = has-column e j t in in-box.column-from w.0 j w.2
+    from-column j t = let w = has-column e j t in in-box.column_from w.0 j w.2
 
     to-column : (j : ℕ) → column_touched c e j ≡ true → j < left + width
-    to-column j t = let w = has-column e j t in in-box.column-to w.0 j w.2
+    to-column j t = let w = has-column e j t in in-box.column_to w.0 j w.2
 
     pub report-least : (i j : ℕ) → i < c.n1 → j < c.n2 → e i j ≡ true → LiesIn (report_of c e) top left height width
     unfolding report_of
@@ -234,15 +234,15 @@ module _ (c : Code) where
   pub burst-report : Formed c → (e : Cells) → Burst c e → SmallReport c (report_of c e)
   unfolding report_of
   burst-report F e B = record {
-    cells-box = box;
-    cells-most = le_trans box sixteen;
-    top-on = r.0;
-    left-on = k.0;
-    height-most = r.1;
-    width-most = k.1;
+    cells_box = box;
+    cells_most = le_trans box sixteen;
+    top_on = r.0;
+    left_on = k.0;
+    height_most = r.1;
+    width_most = k.1;
     rows_on = r.2;
-    columns-on = k.2;
-    pattern-most =
+    columns_on = k.2;
+    pattern_most =
         let p : 2 ^ (height_of c e * width_of c e) ≤ 2 ^ 16 = pow_mono (le_trans (mul-le-mul r.1 k.1) sixteen) in
         omega (arith, report-below e);
   }
@@ -251,16 +251,16 @@ module _ (c : Code) where
       box = box-count B.top B.left c.b1 c.b2 e B.inside c.n1 c.n2
 
       sixteen : c.b1 * c.b2 ≤ 16
-      sixteen = mul-le-mul F.b1-most F.b2-most
+      sixteen = mul-le-mul F.b1_most F.b2_most
 
       r : (first_of c.n1 (row_touched c e) < c.n1) × (size c.n1 (row_touched c e) ≤ c.b1)
           × (first_of c.n1 (row_touched c e) + size c.n1 (row_touched c e) ≤ c.n1)
       r =
-          run-bounds c.n1 (row_touched c e) B.top c.b1 (le_trans F.b1-pos F.n1-least)
+          run-bounds c.n1 (row_touched c e) B.top c.b1 (le_trans F.b1_pos F.n1_least)
           (from_row B.top B.left c.b1 c.b2 e B.inside) (to_row B.top B.left c.b1 c.b2 e B.inside)
 
       k : (first_of c.n2 (column_touched c e) < c.n2) × (size c.n2 (column_touched c e) ≤ c.b2)
           × (first_of c.n2 (column_touched c e) + size c.n2 (column_touched c e) ≤ c.n2)
       k =
-          run-bounds c.n2 (column_touched c e) B.left c.b2 (le_trans F.b2-pos F.n2-least)
+          run-bounds c.n2 (column_touched c e) B.left c.b2 (le_trans F.b2_pos F.n2_least)
           (from-column B.top B.left c.b1 c.b2 e B.inside) (to-column B.top B.left c.b1 c.b2 e B.inside)

@@ -142,17 +142,17 @@ module _ (c : Code) where
   pub belongs-cells : (s t : Cells) → SameCells c s t → Belongs c s → Belongs c t
   belongs-cells s t h b = record {
     row_zero = sym (row-cells s t h) ∙ b.row_zero;
-    column-zero = sym (column-cells s t h) ∙ b.column-zero;
+    column_zero = sym (column-cells s t h) ∙ b.column_zero;
   }
 
 module _ (c : Code) (F : Formed c) where
   pub row_below : (i j : ℕ) → i < c.n1 → row_weight c i j < 2 ^ c.rv
   unfolding row_weight
-  row_below i j l = F.row-entries (i * c.b2 + j % c.b2) (digits_lt l (mod-lt j F.b2-pos))
+  row_below i j l = F.row_entries (i * c.b2 + j % c.b2) (digits_lt l (mod-lt j F.b2_pos))
 
   pub column-below : (i j : ℕ) → j < c.n2 → column_weight c i j < 2 ^ c.rh
   unfolding column_weight
-  column-below i j l = F.column-entries (j * c.b1 + i % c.b1) (digits_lt l (mod-lt i F.b1-pos))
+  column-below i j l = F.column_entries (j * c.b1 + i % c.b1) (digits_lt l (mod-lt i F.b1_pos))
 
   pub joint_sum-is : (s : Cells) → weight_sum c.n1 c.n2 (joint_weight c) s ≡ joined c.rv (row_syndrome c s) (column_syndrome c s)
   unfolding row_syndrome column_syndrome joint_weight joined
@@ -164,12 +164,12 @@ module _ (c : Code) (F : Formed c) where
 
   pub check-below : (k : ℕ) → k < c.rv + c.rh → check_joint c k < 2 ^ (c.rv + c.rh)
   unfolding check_joint
-  check-below k l = joint-below (c.check_row k) (c.check_column k) (F.check-rows k l) (F.check-columns k l)
+  check-below k l = joint-below (c.check_row k) (c.check_column k) (F.check_rows k l) (F.check_columns k l)
 
   pub joint-belongs : (s : Cells) → weight_sum c.n1 c.n2 (joint_weight c) s ≡ 0 → Belongs c s
   joint-belongs s e =
       let z = joined-none c.rv (row_syndrome c s) (column_syndrome c s) (sym (joint_sum-is s) ∙ e) in
-      record { row_zero = z.0; column-zero = z.1 }
+      record { row_zero = z.0; column_zero = z.1 }
 
   pub belongs-joint : (s : Cells) → Belongs c s → weight_sum c.n1 c.n2 (joint_weight c) s ≡ 0
-  belongs-joint s b = joint_sum-is s ∙ ap₂ (joined c.rv) b.row_zero b.column-zero ∙ joined-zero c.rv
+  belongs-joint s b = joint_sum-is s ∙ ap₂ (joined c.rv) b.row_zero b.column_zero ∙ joined-zero c.rv

@@ -38,9 +38,9 @@ module _ (top left height width : ℕ) where
   unfolding box_cells
   box-inside x = record {
     row_from = λ i j t. within-from top height i (and_left (within top height i) (rest i j) t);
-    row-to = λ i j t. within-to top height i (and_left (within top height i) (rest i j) t);
-    column-from = λ i j t. within-from left width j (column i j t);
-    column-to = λ i j t. within-to left width j (column i j t);
+    row_to = λ i j t. within-to top height i (and_left (within top height i) (rest i j) t);
+    column_from = λ i j t. within-from left width j (column i j t);
+    column_to = λ i j t. within-to left width j (column i j t);
   }
     where
       digit : ℕ → ℕ → Bool
@@ -85,9 +85,9 @@ module _ (top left height width : ℕ) where
       sym (box-digit e i j (within-from top height i w) (within-to top height i w) (within-from left width j v) (within-to left width j v))
       ∙ and_right (within left width j) digit r)
       (λ t.
-      and_both (within top height i) (within left width j && digit) (in_within top height i (on.row_from i j t) (on.row-to i j t))
-      (and_both (within left width j) digit (in_within left width j (on.column-from i j t) (on.column-to i j t))
-      (box-digit e i j (on.row_from i j t) (on.row-to i j t) (on.column-from i j t) (on.column-to i j t) ∙ t)))
+      and_both (within top height i) (within left width j && digit) (in_within top height i (on.row_from i j t) (on.row_to i j t))
+      (and_both (within left width j) digit (in_within left width j (on.column_from i j t) (on.column_to i j t))
+      (box-digit e i j (on.row_from i j t) (on.row_to i j t) (on.column_from i j t) (on.column_to i j t) ∙ t)))
     where
       digit : Bool
       digit = bit (box_number top left height width e) ((i - top) * width + (j - left))
@@ -107,14 +107,14 @@ module _ (c : Code) (F : Formed c) where
   unfolding trials
   trial-rows t l =
       let u : t / patterns c / lefts c < c.n1 - c.b1 + 1 = (div-lt_iff_lt-mul lefts-pos).1 ((div-lt_iff_lt-mul patterns-pos).1 l) in
-      let f : c.b1 ≤ c.n1 = F.n1-least in
+      let f : c.b1 ≤ c.n1 = F.n1_least in
       omega arith
 
   pub trial-columns : (t : ℕ) → trial_left c t + c.b2 ≤ c.n2
   trial-columns t = left-on (mod-lt (t / patterns c) lefts-pos)
     where
       left-on : {a : ℕ} → a < lefts c → a + c.b2 ≤ c.n2
-      left-on h = let f : c.b2 ≤ c.n2 = F.n2-least in unfold lefts in omega arith
+      left-on h = let f : c.b2 ≤ c.n2 = F.n2_least in unfold lefts in omega arith
 
   pub trial-burst : (t : ℕ) → t < trials c → few c.t (cell_count c.n1 c.n2 (trial_cells c t)) ≡ true → Burst c (trial_cells c t)
   unfolding trial_cells
@@ -122,7 +122,7 @@ module _ (c : Code) (F : Formed c) where
     top = trial_top c t;
     left = trial_left c t;
     rows_on = trial-rows t l;
-    columns-on = trial-columns t;
+    columns_on = trial-columns t;
     inside = box-inside (trial_top c t) (trial_left c t) c.b1 c.b2 (trial_pattern c t);
     sparse = s;
   }
@@ -144,7 +144,7 @@ module _ (c : Code) (F : Formed c) where
       top_below = let on : B.top + c.b1 ≤ c.n1 = B.rows_on in omega arith
 
       left_below : B.left < lefts c
-      left_below = let on : B.left + c.b2 ≤ c.n2 = B.columns-on in unfold lefts in omega arith
+      left_below = let on : B.left + c.b2 ≤ c.n2 = B.columns_on in unfold lefts in omega arith
 
       corner : t / patterns c ≡ B.top * lefts c + B.left
       corner = digits_div (B.top * lefts c + B.left) x_below

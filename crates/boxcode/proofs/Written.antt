@@ -52,11 +52,11 @@ pub belongs-true : (c : Code) (s : Cells) → belongs c s ≡ true → Belongs c
 unfolding belongs
 belongs-true c s t =
     let sums = both_equal (row_syndrome c s) (column_syndrome c s) 0 0 t in
-    record { row_zero = sums.0; column-zero = sums.1 }
+    record { row_zero = sums.0; column_zero = sums.1 }
 
 pub true-belongs : (c : Code) (s : Cells) → Belongs c s → belongs c s ≡ true
 unfolding belongs
-true-belongs c s b = equal-both (row_syndrome c s) (column_syndrome c s) 0 0 b.row_zero b.column-zero
+true-belongs c s b = equal-both (row_syndrome c s) (column_syndrome c s) 0 0 b.row_zero b.column_zero
 
 module _ (c : Code) (F : Formed c) where
   -- of a set that has check cells only
@@ -140,7 +140,7 @@ module _ (c : Code) (F : Formed c) where
       r = c.rv + c.rh
 
       few : c.rv + c.rh ≤ 64
-      few = let a : c.rv ≤ 32 = F.rv-most in let b : c.rh ≤ 32 = F.rh-most in omega arith
+      few = let a : c.rv ≤ 32 = F.rv_most in let b : c.rh ≤ 32 = F.rh_most in omega arith
 
       way : (m : ℕ → Bool) × (chosen_sum r m (check_joint c) ≡ joint_sum c (fill c x 0))
       way =

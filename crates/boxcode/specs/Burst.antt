@@ -18,9 +18,9 @@ use Rattle.boxcode.specs.Syndrome.{Cells, Belongs, flip, row_syndrome, column_sy
 
 pub record Inside (top left height width : ℕ) (e : Cells) : Type 0 where
   pub row_from : (i j : ℕ) → e i j ≡ true → top ≤ i
-  pub row-to : (i j : ℕ) → e i j ≡ true → i < top + height
-  pub column-from : (i j : ℕ) → e i j ≡ true → left ≤ j
-  pub column-to : (i j : ℕ) → e i j ≡ true → j < left + width
+  pub row_to : (i j : ℕ) → e i j ≡ true → i < top + height
+  pub column_from : (i j : ℕ) → e i j ≡ true → left ≤ j
+  pub column_to : (i j : ℕ) → e i j ≡ true → j < left + width
 
 -- the number of cells of a set on the first n rows of m columns
 unfoldable pub cell_count : ℕ → ℕ → Cells → ℕ
@@ -31,7 +31,7 @@ pub record Burst (c : Code) (e : Cells) : Type 0 where
   pub top : ℕ
   pub left : ℕ
   pub rows_on : top + c.b1 ≤ c.n1
-  pub columns-on : left + c.b2 ≤ c.n2
+  pub columns_on : left + c.b2 ≤ c.n2
   pub inside : Inside top left c.b1 c.b2 e
   -- 02 m: "With t of 1 or 2, a blot has at most t cells"
   pub sparse : few c.t (cell_count c.n1 c.n2 e) ≡ true

@@ -39,22 +39,22 @@ unfoldable pub cell_number : Code → ℕ → ℕ → ℕ
 cell_number c i j = i * c.n2 + j
 
 pub record Formed (c : Code) : Type 0 where
-  pub b1-pos : 1 ≤ c.b1
-  pub b1-most : c.b1 ≤ 4
-  pub b2-pos : 1 ≤ c.b2
-  pub b2-most : c.b2 ≤ 4
-  pub t-most : c.t ≤ 2
-  pub n1-least : c.b1 ≤ c.n1
-  pub n1-most : c.n1 ≤ 512
-  pub n2-least : c.b2 ≤ c.n2
-  pub n2-most : c.n2 ≤ 698
-  pub rv-pos : 1 ≤ c.rv
-  pub rv-most : c.rv ≤ 32
-  pub rh-pos : 1 ≤ c.rh
-  pub rh-most : c.rh ≤ 32
-  pub row-entries : (k : ℕ) → k < c.n1 * c.b2 → c.row_entry k < 2 ^ c.rv
-  pub column-entries : (k : ℕ) → k < c.n2 * c.b1 → c.column_entry k < 2 ^ c.rh
-  pub check-rows : (k : ℕ) → k < c.rv + c.rh → c.check_row k < c.n1
-  pub check-columns : (k : ℕ) → k < c.rv + c.rh → c.check_column k < c.n2
-  pub check-rising : (k : ℕ) → suc k < c.rv + c.rh
+  pub b1_pos : 1 ≤ c.b1
+  pub b1_most : c.b1 ≤ 4
+  pub b2_pos : 1 ≤ c.b2
+  pub b2_most : c.b2 ≤ 4
+  pub t_most : c.t ≤ 2
+  pub n1_least : c.b1 ≤ c.n1
+  pub n1_most : c.n1 ≤ 512
+  pub n2_least : c.b2 ≤ c.n2
+  pub n2_most : c.n2 ≤ 698
+  pub rv_pos : 1 ≤ c.rv
+  pub rv_most : c.rv ≤ 32
+  pub rh_pos : 1 ≤ c.rh
+  pub rh_most : c.rh ≤ 32
+  pub row_entries : (k : ℕ) → k < c.n1 * c.b2 → c.row_entry k < 2 ^ c.rv
+  pub column_entries : (k : ℕ) → k < c.n2 * c.b1 → c.column_entry k < 2 ^ c.rh
+  pub check_rows : (k : ℕ) → k < c.rv + c.rh → c.check_row k < c.n1
+  pub check_columns : (k : ℕ) → k < c.rv + c.rh → c.check_column k < c.n2
+  pub check_rising : (k : ℕ) → suc k < c.rv + c.rh
       → cell_number c (c.check_row k) (c.check_column k) < cell_number c (c.check_row (suc k)) (c.check_column (suc k))

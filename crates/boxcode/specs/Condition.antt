@@ -41,10 +41,10 @@ pub record Conditions (c : Code) : Type 0 where
   pub columns : c.t ≡ 0 → (a a' : ℕ) → a < a' → a' + c.b2 ≤ c.n2
       → Independent (c.b2 * c.b1) (column_member c a a') (column_difference c a a')
   -- 02 m: no "two different sets of at most t positions, one in each window, with the same V sum"
-  pub sparse-rows : 1 ≤ c.t → (i i' : ℕ) → i ≤ i' → i' + c.b1 ≤ c.n1
+  pub sparse_rows : 1 ≤ c.t → (i i' : ℕ) → i ≤ i' → i' + c.b1 ≤ c.n1
       → Apart c.t (c.n1 * c.b2) (in_window c i) (in_window c i') c.row_entry
   -- 02 m: no "nonempty set of at most t members with exclusive-or 0"
-  pub sparse-columns : 1 ≤ c.t → (a a' : ℕ) → a < a' → a' + c.b2 ≤ c.n2
+  pub sparse_columns : 1 ≤ c.t → (a a' : ℕ) → a < a' → a' + c.b2 ≤ c.n2
       → IndependentUpTo c.t (c.b2 * c.b1) (column_member c a a') (column_difference c a a')
   pub checks : Independent (c.rv + c.rh) everyone (check_joint c)
 

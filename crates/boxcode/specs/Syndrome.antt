@@ -27,7 +27,7 @@ column_syndrome c s = weight_sum c.n1 c.n2 (column_weight c) s
 
 pub record Belongs (c : Code) (s : Cells) : Type 0 where
   pub row_zero : row_syndrome c s ≡ 0
-  pub column-zero : column_syndrome c s ≡ 0
+  pub column_zero : column_syndrome c s ≡ 0
 
 abbrev pub flip : Cells → Cells → Cells
 flip s e i j = xor (s i j) (e i j)

@@ -77,11 +77,11 @@ checked-else u v {f} {x} C e o = record {
 module _ (plan : List ℕ) where
   pub size-most : Formed (code_of plan) → data_size (code_of plan) ≤ 357376
   unfolding data_size
-  size-most F = omega (arith, sheet-cells F.n1-most F.n2-most)
+  size-most F = omega (arith, sheet-cells F.n1_most F.n2_most)
 
   pub bytes_most : (m : ℕ) → Formed (code_of plan) → m ≡ row_bytes (code_of plan).n2 → (code_of plan).n1 * m ≤ 45056
   unfolding row_bytes
-  bytes_most m F e = let w : m ≤ 88 = omega (arith, F.n2-most) in mul-le-mul F.n1-most w
+  bytes_most m F e = let w : m ≤ 88 = omega (arith, F.n2_most) in mul-le-mul F.n1_most w
 
 -- ---- each check
 
@@ -117,36 +117,36 @@ number_of e = ap (λ (v : Verdict). v.number) e
 
 pub record SheetFits (lay : Layout) (plan sheet : List ℕ) : Type 0 where
   pub accepted : Accepted plan
-  pub sheet-size : length sheet ≡ size_in lay (code_of plan).n1 (code_of plan).n2
+  pub sheet_len : length sheet ≡ size_in lay (code_of plan).n1 (code_of plan).n2
 
 pub sheet-zero : (lay : Layout) (plan sheet : List ℕ) → (sheet_checks lay plan sheet).number ≡ 0 → SheetFits lay plan sheet
 unfolding sheet_checks
 sheet-zero lay plan sheet e =
     let p = else-zero (plan_verdict plan) _ e in
-    record { accepted = accepted-plan plan p.0; sheet-size = length-right 10 sheet _ p.1 }
+    record { accepted = accepted-plan plan p.0; sheet_len = length-right 10 sheet _ p.1 }
 
 pub sheets-pass : (lay : Layout) (plan sheet : List ℕ) → SheetFits lay plan sheet → sheet_checks lay plan sheet ≡ accepted
 unfolding sheet_checks
 sheets-pass lay plan sheet F =
-    else-second (plan_verdict plan) _ (number_of (plan-accepted plan F.accepted)) ∙ right-length 11 sheet _ F.sheet-size
+    else-second (plan_verdict plan) _ (number_of (plan-accepted plan F.accepted)) ∙ right-length 11 sheet _ F.sheet_len
 
 pub record Lengths (lay : Layout) (plan sheet bits : List ℕ) : Type 0 where
   pub accepted : Accepted plan
-  pub sheet-size : length sheet ≡ size_in lay (code_of plan).n1 (code_of plan).n2
-  pub bits-size : length bits ≡ row_bytes (data_size (code_of plan))
+  pub sheet_len : length sheet ≡ size_in lay (code_of plan).n1 (code_of plan).n2
+  pub bits_size : length bits ≡ row_bytes (data_size (code_of plan))
 
 pub length-zero : (lay : Layout) (plan sheet bits : List ℕ) → (length_checks lay plan sheet bits).number ≡ 0 → Lengths lay plan sheet bits
 unfolding length_checks
 length-zero lay plan sheet bits e =
     let p = else-zero (sheet_checks lay plan sheet) _ e in
     let F = sheet-zero lay plan sheet p.0 in
-    record { accepted = F.accepted; sheet-size = F.sheet-size; bits-size = length-right 11 bits _ p.1 }
+    record { accepted = F.accepted; sheet_len = F.sheet_len; bits_size = length-right 11 bits _ p.1 }
 
 pub lengths-pass : (lay : Layout) (plan sheet bits : List ℕ) → Lengths lay plan sheet bits → length_checks lay plan sheet bits ≡ accepted
 unfolding length_checks
 lengths-pass lay plan sheet bits L =
-    let F : SheetFits lay plan sheet = record { accepted = L.accepted; sheet-size = L.sheet-size } in
-    else-second (sheet_checks lay plan sheet) _ (number_of (sheets-pass lay plan sheet F)) ∙ right-length 12 bits _ L.bits-size
+    let F : SheetFits lay plan sheet = record { accepted = L.accepted; sheet_len = L.sheet_len } in
+    else-second (sheet_checks lay plan sheet) _ (number_of (sheets-pass lay plan sheet F)) ∙ right-length 12 bits _ L.bits_size
 
 pub record MayWrite (lay : Layout) (plan bits sheet : List ℕ) : Type 0 where
   pub lengths : Lengths lay plan sheet bits
@@ -162,7 +162,7 @@ write-zero lay plan bits sheet e =
     let k = data_size (code_of plan) in
     let p = else-zero (length_checks lay plan sheet bits) _ e in
     let L = length-zero lay plan sheet bits p.0 in
-    record { lengths = L; form = unused-right ByRow 1 k bits (L.bits-size ∙ sym (row-sheet k)) p.1 }
+    record { lengths = L; form = unused-right ByRow 1 k bits (L.bits_size ∙ sym (row-sheet k)) p.1 }
 
 pub writes-pass : (lay : Layout) (plan bits sheet : List ℕ) → MayWrite lay plan bits sheet → write_checks lay plan bits sheet ≡ accepted
 unfolding write_checks
@@ -175,7 +175,7 @@ unfolding read_checks
 read-zero lay plan sheet bits e =
     let p = else-zero (length_checks lay plan sheet bits) _ e in
     let L = length-zero lay plan sheet bits p.0 in
-    record { lengths = L; form = unused-right lay (code_of plan).n1 (code_of plan).n2 sheet L.sheet-size p.1 }
+    record { lengths = L; form = unused-right lay (code_of plan).n1 (code_of plan).n2 sheet L.sheet_len p.1 }
 
 pub reads-pass : (lay : Layout) (plan sheet bits : List ℕ) → MayRead lay plan sheet bits → read_checks lay plan sheet bits ≡ accepted
 unfolding read_checks
@@ -186,7 +186,7 @@ reads-pass lay plan sheet bits r =
 pub record MayTranspose (lay : Layout) (plan source target : List ℕ) : Type 0 where
   pub accepted : Accepted plan
   pub form : FormIn lay (code_of plan).n1 (code_of plan).n2 source
-  pub target-size : length target ≡ size_in (other_than lay) (code_of plan).n1 (code_of plan).n2
+  pub target_size : length target ≡ size_in (other_than lay) (code_of plan).n1 (code_of plan).n2
 
 pub transpose-zero : (lay : Layout) (plan source target : List ℕ) → (transpose_checks lay plan source target).number ≡ 0 → MayTranspose lay plan source target
 unfolding transpose_checks
@@ -198,8 +198,8 @@ transpose-zero lay plan source target e =
     let F = sheet-zero lay plan source p.0 in
     record {
       accepted = F.accepted;
-      form = unused-right lay n1 n2 source F.sheet-size q.1;
-      target-size = length-right 10 target _ q.0;
+      form = unused-right lay n1 n2 source F.sheet_len q.1;
+      target_size = length-right 10 target _ q.0;
     }
 
 pub transposes-pass : (lay : Layout) (plan source target : List ℕ) → MayTranspose lay plan source target → transpose_checks lay plan source target ≡ accepted
@@ -207,9 +207,9 @@ unfolding transpose_checks
 transposes-pass lay plan source target m =
     let n1 = (code_of plan).n1 in
     let n2 = (code_of plan).n2 in
-    let S : SheetFits lay plan source = record { accepted = m.accepted; sheet-size = in_size lay n1 n2 source m.form } in
+    let S : SheetFits lay plan source = record { accepted = m.accepted; sheet_len = in_size lay n1 n2 source m.form } in
     else-second (sheet_checks lay plan source) _ (number_of (sheets-pass lay plan source S))
-    ∙ else-second (length_verdict 11 target (size_in (other_than lay) n1 n2)) _ (number_of (right-length 11 target _ m.target-size))
+    ∙ else-second (length_verdict 11 target (size_in (other_than lay) n1 n2)) _ (number_of (right-length 11 target _ m.target_size))
     ∙ right-unused lay n1 n2 source m.form
 
 pub record InForm (plan sheet : List ℕ) : Type 0 where
@@ -221,12 +221,12 @@ unfolding form_checks
 form-zero plan sheet e =
     let p = else-zero (sheet_checks ByRow plan sheet) _ e in
     let F = sheet-zero ByRow plan sheet p.0 in
-    record { accepted = F.accepted; form = unused-right ByRow (code_of plan).n1 (code_of plan).n2 sheet F.sheet-size p.1 }
+    record { accepted = F.accepted; form = unused-right ByRow (code_of plan).n1 (code_of plan).n2 sheet F.sheet_len p.1 }
 
 pub forms-pass : (plan sheet : List ℕ) → InForm plan sheet → form_checks plan sheet ≡ accepted
 unfolding form_checks
 forms-pass plan sheet F =
-    let S : SheetFits ByRow plan sheet = record { accepted = F.accepted; sheet-size = F.form.size } in
+    let S : SheetFits ByRow plan sheet = record { accepted = F.accepted; sheet_len = F.form.size } in
     else-second (sheet_checks ByRow plan sheet) _ (number_of (sheets-pass ByRow plan sheet S))
     ∙ right-unused ByRow (code_of plan).n1 (code_of plan).n2 sheet F.form
 
@@ -247,33 +247,33 @@ sums-pass plan sheet sums m =
 
 pub record ScansFit (plan first second : List ℕ) : Type 0 where
   pub accepted : Accepted plan
-  pub first-size : length first ≡ sheet_bytes (code_of plan).n1 (code_of plan).n2
-  pub second-size : length second ≡ sheet_bytes (code_of plan).n1 (code_of plan).n2
+  pub first_size : length first ≡ sheet_bytes (code_of plan).n1 (code_of plan).n2
+  pub second_size : length second ≡ sheet_bytes (code_of plan).n1 (code_of plan).n2
 
 pub scans-fit : (plan first second : List ℕ) → (scan_lengths plan first second).number ≡ 0 → ScansFit plan first second
 unfolding scan_lengths
 scans-fit plan first second e =
     let p = else-zero (sheet_checks ByRow plan first) _ e in
     let F = sheet-zero ByRow plan first p.0 in
-    record { accepted = F.accepted; first-size = F.sheet-size; second-size = length-right 10 second _ p.1 }
+    record { accepted = F.accepted; first_size = F.sheet_len; second_size = length-right 10 second _ p.1 }
 
 pub record BothInForm (plan first second : List ℕ) : Type 0 where
   pub accepted : Accepted plan
-  pub first-form : RightForm (code_of plan).n1 (code_of plan).n2 first
-  pub second-form : RightForm (code_of plan).n1 (code_of plan).n2 second
+  pub first_form : RightForm (code_of plan).n1 (code_of plan).n2 first
+  pub second_form : RightForm (code_of plan).n1 (code_of plan).n2 second
 
 lengths-both : (plan first second : List ℕ) → BothInForm plan first second → scan_lengths plan first second ≡ accepted
 unfolding scan_lengths
 lengths-both plan first second B =
-    let S : SheetFits ByRow plan first = record { accepted = B.accepted; sheet-size = B.first-form.size } in
-    else-second (sheet_checks ByRow plan first) _ (number_of (sheets-pass ByRow plan first S)) ∙ right-length 11 second _ B.second-form.size
+    let S : SheetFits ByRow plan first = record { accepted = B.accepted; sheet_len = B.first_form.size } in
+    else-second (sheet_checks ByRow plan first) _ (number_of (sheets-pass ByRow plan first S)) ∙ right-length 11 second _ B.second_form.size
 
 unused-both : (plan first second : List ℕ) → BothInForm plan first second → scans_unused (code_of plan) first second ≡ accepted
 unused-both plan first second B =
     let n1 = (code_of plan).n1 in
     let n2 = (code_of plan).n2 in
-    else-second (unused_verdict ByRow n1 n2 first) _ (number_of (right-unused ByRow n1 n2 first B.first-form))
-    ∙ right-unused ByRow n1 n2 second B.second-form
+    else-second (unused_verdict ByRow n1 n2 first) _ (number_of (right-unused ByRow n1 n2 first B.first_form))
+    ∙ right-unused ByRow n1 n2 second B.second_form
 
 both-unused : (plan first second : List ℕ) → ScansFit plan first second → (scans_unused (code_of plan) first second).number ≡ 0
     → BothInForm plan first second
@@ -283,8 +283,8 @@ both-unused plan first second S e =
     let p = else-zero (unused_verdict ByRow n1 n2 first) _ e in
     record {
       accepted = S.accepted;
-      first-form = unused-right ByRow n1 n2 first S.first-size p.0;
-      second-form = unused-right ByRow n1 n2 second S.second-size p.1;
+      first_form = unused-right ByRow n1 n2 first S.first_size p.0;
+      second_form = unused-right ByRow n1 n2 second S.second_size p.1;
     }
 
 pub both_zero : (plan first second : List ℕ) → (scans_checks plan first second).number ≡ 0 → BothInForm plan first second
@@ -300,18 +300,18 @@ boths-pass plan first second B =
 
 pub record MayReadTwo (plan first second bits : List ℕ) : Type 0 where
   pub both : BothInForm plan first second
-  pub bits-size : length bits ≡ row_bytes (data_size (code_of plan))
+  pub bits_size : length bits ≡ row_bytes (data_size (code_of plan))
 
 pub two-zero : (plan first second bits : List ℕ) → (read_two_checks plan first second bits).number ≡ 0 → MayReadTwo plan first second bits
 unfolding read_two_checks
 two-zero plan first second bits e =
     let p = else-zero (scan_lengths plan first second) _ e in
     let q = else-zero (length_verdict 12 bits (row_bytes (data_size (code_of plan)))) _ p.1 in
-    record { both = both-unused plan first second (scans-fit plan first second p.0) q.1; bits-size = length-right 11 bits _ q.0 }
+    record { both = both-unused plan first second (scans-fit plan first second p.0) q.1; bits_size = length-right 11 bits _ q.0 }
 
 pub twos-pass : (plan first second bits : List ℕ) → MayReadTwo plan first second bits → read_two_checks plan first second bits ≡ accepted
 unfolding read_two_checks
 twos-pass plan first second bits m =
     else-second (scan_lengths plan first second) _ (number_of (lengths-both plan first second m.both))
-    ∙ else-second (length_verdict 12 bits (row_bytes (data_size (code_of plan)))) _ (number_of (right-length 12 bits _ m.bits-size))
+    ∙ else-second (length_verdict 12 bits (row_bytes (data_size (code_of plan)))) _ (number_of (right-length 12 bits _ m.bits_size))
     ∙ unused-both plan first second m.both

@@ -58,7 +58,7 @@ module _ (plan first second : List ℕ) where
   -- by the bytes: what the code looks at
   pub same_none : BothInForm plan first second → first_different first second ≡ length second → difference plan first second ≡ no_part
   same_none B e =
-      let n : row ≡ (code_of plan).n1 = row-none (code_of plan) first second B.first-form B.second-form (e ∙ B.second-form.size) in
+      let n : row ≡ (code_of plan).n1 = row-none (code_of plan) first second B.first_form B.second_form (e ∙ B.second_form.size) in
       difference-none (omega arith)
 
   pub byte-part : BothInForm plan first second → (first_different first second ≡ length second → ⊥)
@@ -66,8 +66,8 @@ module _ (plan first second : List ℕ) where
   byte-part B h =
       let c = code_of plan in
       let l : first_different first second < sheet_bytes c.n1 c.n2 =
-      let e = B.first-form.size in let f = B.second-form.size in let m = different-le first second in omega arith in
-      let r : row ≡ first_different first second / row_bytes c.n2 = row-found c first second B.first-form B.second-form l in
+      let e = B.first_form.size in let f = B.second_form.size in let m = different-le first second in omega arith in
+      let r : row ≡ first_different first second / row_bytes c.n2 = row-found c first second B.first_form B.second_form l in
       let u = cell_row c.n1 c.n2 (first_different first second) l in
       difference-row (ap (λ (v : Verdict). v.number) (boths-pass plan first second B)) (omega arith) ∙ ap (row_part c.n2) r
 
@@ -79,8 +79,8 @@ module _ (plan first second : List ℕ) where
       let F = B.accepted.formed in
       let m = bytes_most plan (row_bytes (code_of plan).n2) F refl in
       let u = different-le first second in
-      let e : length first ≡ (code_of plan).n1 * row_bytes (code_of plan).n2 = B.first-form.size in
-      (omega (arith, F.b2-pos, F.n2-least), omega (arith, F.n2-most), omega arith)
+      let e : length first ≡ (code_of plan).n1 * row_bytes (code_of plan).n2 = B.first_form.size in
+      (omega (arith, F.b2_pos, F.n2_least), omega (arith, F.n2_most), omega arith)
 
   -- row i of a sheet
   row_inside : (n1 n2 i : ℕ) → i < n1 → Inside (row_part n2 i) (sheet_bytes n1 n2)
@@ -106,7 +106,7 @@ module _ (plan first second : List ℕ) where
         go false e = record { ordered = omega arith; within = omega arith }
 
   pub part-inside : Inside (difference plan first second) (length second)
-  part-inside = inside-most (length second) (λ B. let e = B.second-form.size in omega arith)
+  part-inside = inside-most (length second) (λ B. let e = B.second_form.size in omega arith)
 
   pub part_small : Inside (difference plan first second) 45056
   unfolding sheet_bytes

@@ -26,17 +26,17 @@ use Rattle.encode.proofs.Pieces.{header-length, table-length, list_length, table
 
 pub record Placed (h : Header) : Type 0 where
   pub rows_at : h.rows ≡ header_length
-  pub columns-at : h.columns ≡ columns_start h
-  pub checks-at : h.checks ≡ checks_start h
-  pub total-at : h.total ≡ plan_length h
+  pub columns_from : h.columns ≡ columns_start h
+  pub checks_at : h.checks ≡ checks_start h
+  pub total_at : h.total ≡ plan_length h
 
 pub placed : (h : Header) → h ≡ ruled h → Placed h
 unfolding ruled
 placed h e = record {
   rows_at = ap (λ (x : Header). x.rows) e;
-  columns-at = ap (λ (x : Header). x.columns) e;
-  checks-at = ap (λ (x : Header). x.checks) e;
-  total-at = ap (λ (x : Header). x.total) e;
+  columns_from = ap (λ (x : Header). x.columns) e;
+  checks_at = ap (λ (x : Header). x.checks) e;
+  total_at = ap (λ (x : Header). x.total) e;
 }
 
 module _ (h : Header) (v w row column : ℕ → ℕ) where
@@ -159,20 +159,20 @@ module _ (h : Header) (v w row column : ℕ → ℕ) where
   unfolding header_of u16_at plan_bytes header_bytes low_bytes
   encoded-header s r =
       let a = placed h r in
-      let p = s.row-positions in
-      let q = s.column-positions in
+      let p = s.row_positions in
+      let q = s.column_positions in
       λ i. record {
-        n1 = two h.n1 (omega (arith, s.n1-most)) i;
-        n2 = two h.n2 (omega (arith, s.n2-most)) i;
-        b1 = two h.b1 (omega (arith, s.b1-most)) i;
-        b2 = two h.b2 (omega (arith, s.b2-most)) i;
-        rv = two h.rv (omega (arith, s.rv-most)) i;
-        rh = two h.rh (omega (arith, s.rh-most)) i;
+        n1 = two h.n1 (omega (arith, s.n1_most)) i;
+        n2 = two h.n2 (omega (arith, s.n2_most)) i;
+        b1 = two h.b1 (omega (arith, s.b1_most)) i;
+        b2 = two h.b2 (omega (arith, s.b2_most)) i;
+        rv = two h.rv (omega (arith, s.rv_most)) i;
+        rh = two h.rh (omega (arith, s.rh_most)) i;
         rows = two h.rows (omega arith) i;
         columns = two h.columns (omega arith) i;
         checks = two h.checks (omega arith) i;
-        total = two h.total (omega (arith, s.rv-most, s.rh-most)) i;
-        t = two h.t (omega (arith, s.t-most)) i;
+        total = two h.total (omega (arith, s.rv_most, s.rh_most)) i;
+        t = two h.t (omega (arith, s.t_most)) i;
       }
 
 -- ---- equal entries and pairs

@@ -183,13 +183,13 @@ module _ (f : ℕ → ℕ) where
 
   pub taking-none : (w : ℕ) (words places : List ℕ) → length words ≡ 64 → length places ≡ 64 → TakenIn f w 0 words places 0
   unfolding kept
-  taking-none w words places a b = let e = first-none w in record { words_size = a; places-size = b; number = rw e; held = rw e; basis = rw e }
+  taking-none w words places a b = let e = first-none w in record { words_size = a; places_size = b; number = rw e; held = rw e; basis = rw e }
 
   module _ (w n : ℕ) (words places : List ℕ) (count : ℕ) (T : TakenIn f w n words places count) where
     pub taking-full : w ≤ count → (m : ℕ) → n ≤ m → TakenIn f w m words places count
     taking-full u m l =
         let e = first-full w n m l (omega (arith, T.number, first-most w n)) in
-        record { words_size = T.words_size; places-size = T.places-size; number = rw e T.number; held = rw e T.held; basis = rw e T.basis }
+        record { words_size = T.words_size; places_size = T.places_size; number = rw e T.number; held = rw e T.held; basis = rw e T.basis }
 
     -- the value of place n is left 0 by the words exactly if it is no new one
     left-zero : eqb (swept (take count words) (f n)) 0 ≡ spans (map f (first_taken f w n)) (f n)
@@ -203,7 +203,7 @@ module _ (f : ℕ → ℕ) where
           let e = first_out w n (omega (arith, T.number)) (sym left-zero ∙ eq-eqb _ 0 z) in
           record {
             words_size = length-set words count x ∙ T.words_size;
-            places-size = length-set places count y ∙ T.places-size;
+            places_size = length-set places count y ∙ T.places_size;
             number = rw e T.number;
             held = rw e (take-set-le count places count y (omega arith) ∙ T.held);
             basis = rw e (take-set-le count words count x (omega arith) ∙ T.basis);
@@ -215,9 +215,9 @@ module _ (f : ℕ → ℕ) where
           let e = first-in w n (omega (arith, T.number)) (sym left-zero ∙ ne_eqb _ 0 (λ r. z (q ∙ r))) in
           record {
             words_size = length-set words count x ∙ T.words_size;
-            places-size = length-set places count n ∙ T.places-size;
+            places_size = length-set places count n ∙ T.places_size;
             number = rw e (omega (arith, length-append ts (n ∷ []), T.number));
-            held = rw (e, take-suc-set places count n (omega (arith, T.places-size)), T.held);
+            held = rw (e, take-suc-set places count n (omega (arith, T.places_size)), T.held);
             basis =
                 rw (e, take-suc-set words count x (omega (arith, T.words_size)), q, T.basis, map-append f ts (n ∷ []))
                 (sym (kept-last (map f ts) [] (f n)));

@@ -16,7 +16,7 @@ first_taken f w n = take w (taken_below f n)
 
 pub record TakenIn (f : ℕ → ℕ) (w n : ℕ) (words places : List ℕ) (count : ℕ) : Type 0 where
   pub words_size : length words ≡ 64
-  pub places-size : length places ≡ 64
+  pub places_size : length places ≡ 64
   pub number : count ≡ length (first_taken f w n)
   pub held : take count places ≡ first_taken f w n
   pub basis : take count words ≡ kept [] (map f (first_taken f w n))

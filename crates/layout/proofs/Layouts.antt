@@ -80,10 +80,10 @@ in-zeros ByColumn n1 n2 p h = zeros-bytes n2 n1 (λ j i. p i j) (λ j i lj li. h
 
 pub size-most : (lay : Layout) (n1 n2 : ℕ) → Sizes n1 n2 → size_in lay n1 n2 ≤ 45056
 unfolding sheet_bytes row_bytes
-size-most ByRow n1 n2 S = let w : row_bytes n2 ≤ 88 = unfold row_bytes in omega (arith, S.n2-most) in mul-le-mul S.n1-most w
+size-most ByRow n1 n2 S = let w : row_bytes n2 ≤ 88 = unfold row_bytes in omega (arith, S.n2_most) in mul-le-mul S.n1_most w
 size-most ByColumn n1 n2 S =
-    let w : row_bytes n1 ≤ 64 = unfold row_bytes in omega (arith, S.n1-most) in
-    let m : n2 * row_bytes n1 ≤ 698 * 64 = mul-le-mul S.n2-most w in
+    let w : row_bytes n1 ≤ 64 = unfold row_bytes in omega (arith, S.n1_most) in
+    let m : n2 * row_bytes n1 ≤ 698 * 64 = mul-le-mul S.n2_most w in
     omega arith
 
 -- ---- one cell turned over

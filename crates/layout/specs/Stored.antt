@@ -17,8 +17,8 @@ use Rattle.layout.specs.declared.stored.Layout.{Layout}
 use Rattle.layout.specs.declared.stored.Layout.TheVariants.{ByRow, ByColumn}
 
 pub record Sizes (n1 n2 : ℕ) : Type 0 where
-  pub n1-most : n1 ≤ 512
-  pub n2-most : n2 ≤ 698
+  pub n1_most : n1 ≤ 512
+  pub n2_most : n2 ≤ 698
 
 abbrev pub other_than : Layout → Layout
 other_than ByRow = ByColumn

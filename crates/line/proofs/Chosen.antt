@@ -56,7 +56,7 @@ module _ (plan : List ℕ) where
       unless-refused
       (λ z.
       let F = (accepted-plan plan z).formed in
-      let m = le-mul-right (code_of plan).n1 (code_of plan).n2 (let p = F.b2-pos in let q = F.n2-least in omega arith) in
+      let m = le-mul-right (code_of plan).n1 (code_of plan).n2 (let p = F.b2_pos in let q = F.n2_least in omega arith) in
       omega arith)
 
   pub chosen-wide : small_cells < (code_of plan).n2 → ByWindow ≡ search_for plan
@@ -64,5 +64,5 @@ module _ (plan : List ℕ) where
       unless-refused
       (λ z.
       let F = (accepted-plan plan z).formed in
-      let m = le-mul-left (code_of plan).n1 (code_of plan).n2 (let p = F.b1-pos in let q = F.n1-least in omega arith) in
+      let m = le-mul-left (code_of plan).n1 (code_of plan).n2 (let p = F.b1_pos in let q = F.n1_least in omega arith) in
       omega arith)

@@ -12,6 +12,6 @@ pub record DataSize (plan : List ℕ) (r : ℕ) : Type 0 where
 
 -- 160 bytes, and two for each byte of data, are enough for a line: a word, six fields of at most 21 bytes, a space and a newline are 130 bytes
 pub record Room (input sheet bits out : List ℕ) : Type 0 where
-  pub sheet-room : length input ≤ length sheet
-  pub bits-room : 44672 ≤ length bits
-  pub out-room : 89504 ≤ length out
+  pub sheet_room : length input ≤ length sheet
+  pub bits_room : 44672 ≤ length bits
+  pub out_room : 89504 ≤ length out

@@ -58,7 +58,7 @@ module _ (h : Header) (p : Small h) (r : h ≡ ruled h) (v w : ℕ → ℕ) (v_b
   c = code_with s h
 
   n2-pos : 0 < h.n2
-  n2-pos = omega (arith, p.n2-least, p.b2-pos)
+  n2-pos = omega (arith, p.n2_least, p.b2_pos)
 
   -- a check cell lies on the sheet
   cell-inside : (k : ℕ) → k < h.rv + h.rh → get_or ts k 0 < h.n1 * h.n2
@@ -73,16 +73,16 @@ module _ (h : Header) (p : Small h) (r : h ≡ ruled h) (v w : ℕ → ℕ) (v_b
 
   -- what is read is what was written
   row_read : (k : ℕ) → k < h.n1 * h.b2 → row_entry_at s k ≡ v k
-  row_read k l = encoded-row h v w row_at column_at k l (omega (arith, v_below k, pow_mono {i = h.rv} {j = 32} p.rv-most))
+  row_read k l = encoded-row h v w row_at column_at k l (omega (arith, v_below k, pow_mono {i = h.rv} {j = 32} p.rv_most))
 
   column-read : (k : ℕ) → k < h.n2 * h.b1 → column_entry_at s h k ≡ w k
-  column-read k l = encoded-column h v w row_at column_at k l (omega (arith, w-below k, pow_mono {i = h.rh} {j = 32} p.rh-most))
+  column-read k l = encoded-column h v w row_at column_at k l (omega (arith, w-below k, pow_mono {i = h.rh} {j = 32} p.rh_most))
 
   check-row-read : (k : ℕ) → k < h.rv + h.rh → check_row_at s h k ≡ row_at k
-  check-row-read k l = encoded-check-row h v w row_at column_at k l (omega (arith, row_inside k l, p.n1-most))
+  check-row-read k l = encoded-check-row h v w row_at column_at k l (omega (arith, row_inside k l, p.n1_most))
 
   check-column-read : (k : ℕ) → k < h.rv + h.rh → check_column_at s h k ≡ column_at k
-  check-column-read k l = encoded-check-column h v w row_at column_at k l (omega (arith, column-inside k l, p.n2-most))
+  check-column-read k l = encoded-check-column h v w row_at column_at k l (omega (arith, column-inside k l, p.n2_most))
 
   header_read : header_of s ≡ h
   header_read = encoded-header h v w row_at column_at p r
@@ -92,9 +92,9 @@ module _ (h : Header) (p : Small h) (r : h ≡ ruled h) (v w : ℕ → ℕ) (v_b
     is = sym header_read;
     small = p;
     rows_at = (placed h r).rows_at;
-    columns-at = (placed h r).columns-at;
-    checks-at = (placed h r).checks-at;
-    total-at = (placed h r).total-at;
+    columns_from = (placed h r).columns_from;
+    checks_at = (placed h r).checks_at;
+    total_at = (placed h r).total_at;
     long = encoded-length h v w row_at column_at;
   }
 
@@ -108,24 +108,24 @@ module _ (h : Header) (p : Small h) (r : h ≡ ruled h) (v w : ℕ → ℕ) (v_b
 
   formed : Formed c
   formed = record {
-    b1-pos = p.b1-pos;
-    b1-most = p.b1-most;
-    b2-pos = p.b2-pos;
-    b2-most = p.b2-most;
-    t-most = p.t-most;
-    n1-least = p.n1-least;
-    n1-most = p.n1-most;
-    n2-least = p.n2-least;
-    n2-most = p.n2-most;
-    rv-pos = p.rv-pos;
-    rv-most = p.rv-most;
-    rh-pos = p.rh-pos;
-    rh-most = p.rh-most;
-    row-entries = λ k l. rw (row_read k l) (v_below k);
-    column-entries = λ k l. rw (column-read k l) (w-below k);
-    check-rows = λ k l. rw (check-row-read k l) (row_inside k l);
-    check-columns = λ k l. rw (check-column-read k l) (column-inside k l);
-    check-rising = λ k l. rw (number_read k (omega arith), number_read (suc k) l) (rising k l);
+    b1_pos = p.b1_pos;
+    b1_most = p.b1_most;
+    b2_pos = p.b2_pos;
+    b2_most = p.b2_most;
+    t_most = p.t_most;
+    n1_least = p.n1_least;
+    n1_most = p.n1_most;
+    n2_least = p.n2_least;
+    n2_most = p.n2_most;
+    rv_pos = p.rv_pos;
+    rv_most = p.rv_most;
+    rh_pos = p.rh_pos;
+    rh_most = p.rh_most;
+    row_entries = λ k l. rw (row_read k l) (v_below k);
+    column_entries = λ k l. rw (column-read k l) (w-below k);
+    check_rows = λ k l. rw (check-row-read k l) (row_inside k l);
+    check_columns = λ k l. rw (check-column-read k l) (column-inside k l);
+    check_rising = λ k l. rw (number_read k (omega arith), number_read (suc k) l) (rising k l);
   }
 
   -- a joint entry, as it is read
@@ -136,8 +136,8 @@ module _ (h : Header) (p : Small h) (r : h ≡ ruled h) (v w : ℕ → ℕ) (v_b
       let j = column-inside k l in
       sym (ap₂ (λ (x y : ℕ). row_entry_at s (x * h.b2 + y % h.b2) + 2 ^ h.rv * column_entry_at s h (y * h.b1 + x % h.b1))
       (check-row-read k l) (check-column-read k l)
-      ∙ ap₂ (λ (x y : ℕ). x + 2 ^ h.rv * y) (row_read _ (position-fits (row_at k) (column_at k) h.b2 h.n1 i p.b2-pos))
-      (column-read _ (position-fits (column_at k) (row_at k) h.b1 h.n2 j p.b1-pos)))
+      ∙ ap₂ (λ (x y : ℕ). x + 2 ^ h.rv * y) (row_read _ (position-fits (row_at k) (column_at k) h.b2 h.n1 i p.b2_pos))
+      (column-read _ (position-fits (column_at k) (row_at k) h.b1 h.n2 j p.b1_pos)))
 
   taken : Independent (h.rv + h.rh) everyone (λ k. cell_joint (bare_code h v w) (get_or ts k 0))
   unfolding taken_cells

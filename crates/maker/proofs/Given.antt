@@ -60,12 +60,12 @@ given-good g size e =
       small = p;
       long = eqb-true size (plan_length h) (not-false (eqb size (plan_length h)) offsets.1);
       degrees = unfold ruled in record {
-        rv-pos = p.rv-pos;
-        rv-most = p.rv-most;
+        rv_pos = p.rv_pos;
+        rv_most = p.rv_most;
         v_below = low_below g.rv g.vlow bad.0;
-        rh-pos = p.rh-pos;
-        rh-most = p.rh-most;
-        h-below = low_below g.rh g.hlow bad.1;
+        rh_pos = p.rh_pos;
+        rh_most = p.rh_most;
+        h_below = low_below g.rh g.hlow bad.1;
       };
     }
 

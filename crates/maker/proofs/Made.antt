@@ -44,4 +44,4 @@ module _ (g : Parameters) (plan : List ℕ) (e : (make g plan).verdict.number �
       let small = column-below g G.degrees k in
       ap (λ (s : List ℕ). column_entry_at s (header_of s) k) made_bytes
       ∙ ap (λ (x : Header). column_entry_at bytes x k) (encoded-header h (row_table g) (column_table g) _ _ G.small (ruled-twice g))
-      ∙ encoded-column h (row_table g) (column_table g) _ _ k l (omega (arith, small, pow_mono {i = g.rh} {j = 32} G.degrees.rh-most))
+      ∙ encoded-column h (row_table g) (column_table g) _ _ k l (omega (arith, small, pow_mono {i = g.rh} {j = 32} G.degrees.rh_most))

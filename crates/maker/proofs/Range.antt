@@ -35,7 +35,7 @@ make-fits g plan =
     else-fits (given_checks g (length plan)) (rows_verdict c or_else columns_verdict c or_else taken) (given-fits g (length plan))
     (λ e. let p = (given-good g (length plan) e).small in
     else-fits (rows_verdict c) (columns_verdict c or_else taken)
-    (pair_fits 8 (h.n1 - h.b1 + 1) (row_pair_free c) (λ i. i) (omega arith) (omega arith) (omega (arith, p.n1-most)) (λ k l. omega arith))
+    (pair_fits 8 (h.n1 - h.b1 + 1) (row_pair_free c) (λ i. i) (omega arith) (omega arith) (omega (arith, p.n1_most)) (λ k l. omega arith))
     (λ _. else-fits (columns_verdict c) taken
-    (pair_fits 9 (h.n2 - h.b2 + 1) (column_pair_free c) (λ i. i + 1) (omega arith) (omega arith) (omega (arith, p.n2-most)) (λ k l. omega arith))
+    (pair_fits 9 (h.n2 - h.b2 + 1) (column_pair_free c) (λ i. i + 1) (omega arith) (omega arith) (omega (arith, p.n2_most)) (λ k l. omega arith))
     (λ _. if-fits (ltb (length (taken_cells h (row_table g) (column_table g))) (h.rv + h.rh)) (refusal 16 0 0) (λ _. refusal-fits 16 (omega arith)))))

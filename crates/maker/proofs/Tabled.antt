@@ -45,10 +45,10 @@ use Rattle.maker.specs.Steps.{Degrees, PowerTables}
 
 -- a power has as many digits as the degree says
 pub row_below : (g : Parameters) → Degrees g → (k : ℕ) → row_table g k < 2 ^ g.rv
-row_below g D = power_below g.rv (polynomial g.rv g.vlow) D.rv-pos (polynomial-degree g.rv g.vlow D.v_below)
+row_below g D = power_below g.rv (polynomial g.rv g.vlow) D.rv_pos (polynomial-degree g.rv g.vlow D.v_below)
 
 pub column-below : (g : Parameters) → Degrees g → (k : ℕ) → column_table g k < 2 ^ g.rh
-column-below g D = power_below g.rh (polynomial g.rh g.hlow) D.rh-pos (polynomial-degree g.rh g.hlow D.h-below)
+column-below g D = power_below g.rh (polynomial g.rh g.hlow) D.rh_pos (polynomial-degree g.rh g.hlow D.h_below)
 
 -- two tables of powers laid out, in words that were 2,792 each
 pub tables-filled : (g : Parameters) (rows₀ columns₀ rows columns : List ℕ) → length rows₀ ≡ 2792 → length columns₀ ≡ 2792
@@ -56,8 +56,8 @@ pub tables-filled : (g : Parameters) (rows₀ columns₀ rows columns : List ℕ
     → PowerTables g (header_for g) rows columns
 unfolding ruled
 tables-filled g rows₀ columns₀ rows columns r c P Q = record {
-  rows-size = P.size ∙ r;
-  columns-size = Q.size ∙ c;
+  rows_size = P.size ∙ r;
+  columns_size = Q.size ∙ c;
   row = P.value;
   column = Q.value;
 }
@@ -65,10 +65,10 @@ tables-filled g rows₀ columns₀ rows columns r c P Q = record {
 -- a power has at most 32 digits
 pub power-tables : (g : Parameters) (h : Header) (rows columns : List ℕ) → Degrees g → PowerTables g h rows columns → Tables h rows columns
 power-tables g h rows columns D P = record {
-  rows-size = P.rows-size;
-  columns-size = P.columns-size;
-  rows-below = λ k l. rw (P.row k l) (omega (arith, row_below g D k, pow_mono {i = g.rv} {j = 32} D.rv-most));
-  columns-below = λ k l. rw (P.column k l) (omega (arith, column-below g D k, pow_mono {i = g.rh} {j = 32} D.rh-most));
+  rows_size = P.rows_size;
+  columns_size = P.columns_size;
+  rows_below = λ k l. rw (P.row k l) (omega (arith, row_below g D k, pow_mono {i = g.rv} {j = 32} D.rv_most));
+  columns_below = λ k l. rw (P.column k l) (omega (arith, column-below g D k, pow_mono {i = g.rh} {j = 32} D.rh_most));
 }
 
 module _ (h : Header) (p : Small h) (v w v' w' : ℕ → ℕ) (same-v : (k : ℕ) → k < h.n1 * h.b2 → v k ≡ v' k)
@@ -76,11 +76,11 @@ module _ (h : Header) (p : Small h) (v w v' w' : ℕ → ℕ) (same-v : (k : ℕ
   joint-equal : (t : ℕ) → t < h.n1 * h.n2 → cell_joint (bare_code h v w) t ≡ cell_joint (bare_code h v' w') t
   unfolding cell_joint joint_weight row_weight column_weight
   joint-equal t l =
-      let n2-pos : 0 < h.n2 = omega (arith, p.n2-least, p.b2-pos) in
+      let n2-pos : 0 < h.n2 = omega (arith, p.n2_least, p.b2_pos) in
       let row : t / h.n2 < h.n1 = (div-lt_iff_lt-mul n2-pos).1 l in
       let column = mod-lt t n2-pos in
-      ap₂ (λ (a b : ℕ). a + 2 ^ h.rv * b) (same-v _ (position-fits (t / h.n2) (t % h.n2) h.b2 h.n1 row p.b2-pos))
-      (same_w _ (position-fits (t % h.n2) (t / h.n2) h.b1 h.n2 column p.b1-pos))
+      ap₂ (λ (a b : ℕ). a + 2 ^ h.rv * b) (same-v _ (position-fits (t / h.n2) (t % h.n2) h.b2 h.n1 row p.b2_pos))
+      (same_w _ (position-fits (t % h.n2) (t / h.n2) h.b1 h.n2 column p.b1_pos))
 
   cells-equal : taken_cells h v w ≡ taken_cells h v' w'
   unfolding taken_cells first_taken

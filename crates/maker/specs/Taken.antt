@@ -21,10 +21,10 @@ unfoldable pub cell_joint : Code → ℕ → ℕ
 cell_joint c t = joint_weight c (t / c.n2) (t % c.n2)
 
 pub record Tables (h : Header) (rows columns : List ℕ) : Type 0 where
-  pub rows-size : length rows ≡ 2792
-  pub columns-size : length columns ≡ 2792
-  pub rows-below : Entries32 (entries_of h Rows) rows
-  pub columns-below : Entries32 (entries_of h Columns) columns
+  pub rows_size : length rows ≡ 2792
+  pub columns_size : length columns ≡ 2792
+  pub rows_below : Entries32 (entries_of h Rows) rows
+  pub columns_below : Entries32 (entries_of h Columns) columns
 
 abbrev pub HeldTo : Header → (rows columns : List ℕ) → ℕ → Taken → Type 0
 HeldTo h rows columns n t =

@@ -66,7 +66,7 @@ module _ (c : Code) (F : Formed c) (K : Conditions c) (v s : ℕ) where
         let f = laid-found a columns e in
         record {
           rows_on = rows;
-          columns-on = columns;
+          columns_on = columns;
           below = unfold box_pattern in number-below (c.b1 * c.b2) (laid_digit c.b2 a x);
           has = has-burst c F v s (laid_cells c i x a) f;
           cells = λ i' j. laid-number c F i x rows a i' j ∙ sym (burst-is c F v s (separated c F K) (laid_cells c i x a) f i' j);
@@ -111,11 +111,11 @@ module _ (c : Code) (F : Formed c) (K : Conditions c) where
   no-pattern = number-none (c.b1 * c.b2) (laid_digit c.b2 0 0) (λ k. bit-none _)
 
   first-window : 0 + c.b1 ≤ c.n1
-  first-window = let l = F.n1-least in omega arith
+  first-window = let l = F.n1_least in omega arith
 
   pub zero-burst : IsBurst c 0 0 0 0 0
   zero-burst =
-      let on : 0 + c.b2 ≤ c.n2 = (let l = F.n2-least in omega arith) in
+      let on : 0 + c.b2 ≤ c.n2 = (let l = F.n2_least in omega arith) in
       rw no-pattern at (strip-burst c F K 0 0 0 0 first-window none-few no-sum 0 on (no-laid 0))
 
   pub zero-none : (s : ℕ) → (s ≡ 0 → ⊥) → has_burst c 0 s ≡ false
@@ -141,12 +141,12 @@ strips-decide s h words U T v t i x rows q = found-for (code_with s h) v t (on_s
     a = least n p
 
     same : (a : ℕ) → a + h.b2 ≤ h.n2 → laid_sum h.b1 h.b2 (word_at words) i a x ≡ laid_sum h.b1 h.b2 (column_entry_at s h) i a x
-    same a on = laid-entries h.b1 h.b2 h.n2 i a x (word_at words) (column_entry_at s h) U.formed.b1-pos on T.entry
+    same a on = laid-entries h.b1 h.b2 h.n2 i a x (word_at words) (column_entry_at s h) U.formed.b1_pos on T.entry
 
     go : (b : Bool) → ltb a n ≡ b → BurstOrNone (code_with s h) v t (cond b (Burst i a (box_pattern h.b1 h.b2 a x)) Nothing)
     go true e =
         let l : a < n = ltb-true a n e in
-        let on : a + h.b2 ≤ h.n2 = (let w = U.framed.small.n2-least in omega arith) in
+        let on : a + h.b2 ≤ h.n2 = (let w = U.framed.small.n2_least in omega arith) in
         strip-burst (code_with s h) U.formed U.conditions v t i x rows q.0 q.1 a on
         (sym (same a on) ∙ eqb-true (laid_sum h.b1 h.b2 (word_at words) i a x) t (least-found n p l))
     go false e =
@@ -167,14 +167,14 @@ module _ (s : List ℕ) (h : Header) (words : List ℕ) (U : AcceptedWith s h) (
   unfolding search_from
   search-rest zero i e none =
       found-for (code_with s h) v t Nothing
-      (window-none (code_with s h) U.formed U.conditions v t (λ j on m u q. none j (let l = U.framed.small.n1-least in omega arith) m u q))
+      (window-none (code_with s h) U.formed U.conditions v t (λ j on m u q. none j (let l = U.framed.small.n1_least in omega arith) m u q))
   search-rest (suc m) i e none = go (first_fit (code_with s h) i v) refl (λ z. search-rest m (suc i) (omega arith) z)
     where
       go : (f : Fit) → first_fit (code_with s h) i v ≡ f
           → (((j : ℕ) → j < suc i → Misses j) → FoundFor (code_with s h) v t (search_from s h (word_at words) v t (suc i) m))
           → FoundFor (code_with s h) v t (after_fit f (λ x. on_strips h (word_at words) i x t) (search_from s h (word_at words) v t (suc i) m))
       go (Pattern x) q rest =
-          let l = U.framed.small.n1-least in
+          let l = U.framed.small.n1_least in
           strips-decide s h words U T v t i x (omega arith) (fit-sum (code_with s h) i v x q)
       go Missing q rest = rest (λ j l. below_more Misses i none (fit_none (code_with s h) i v q) j (let k : j < i + 1 = omega arith in k))
 

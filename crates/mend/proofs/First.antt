@@ -82,7 +82,7 @@ module _ (c : Code) (v s : ℕ) where
       is : has_burst c v s ≡ true → IsBurst c v s (trial_top c t) (trial_left c t) (trial_pattern c t)
       is e = record {
         rows_on = trial-rows c F t (first_below e);
-        columns-on = trial-columns c F t;
+        columns_on = trial-columns c F t;
         below = pattern-below t;
         has = e;
         cells = first-cells;

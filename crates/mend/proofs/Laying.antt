@@ -39,10 +39,10 @@ pub box-sum : (n m top left height width : ℕ) → top + height ≤ n → left 
 unfolding weight_sum
 box-sum n m top left height width rows columns w e on =
     run-sum n top height (λ i. xor_sum m (weighed w e i)) rows
-    (λ i miss. sum-zero m (weighed w e i) (λ j l. off i j (λ t. miss (on.row_from i j t) (on.row-to i j t))))
+    (λ i miss. sum-zero m (weighed w e i) (λ j l. off i j (λ t. miss (on.row_from i j t) (on.row_to i j t))))
     ∙ sum-equal height (λ r. xor_sum m (weighed w e (top + r))) (λ r. xor_sum width (λ d. weighed w e (top + r) (left + d)))
     (λ r l. run-sum m left width (weighed w e (top + r)) columns (λ j miss.
-    off (top + r) j (λ t. miss (on.column-from (top + r) j t) (on.column-to (top + r) j t))))
+    off (top + r) j (λ t. miss (on.column_from (top + r) j t) (on.column_to (top + r) j t))))
   where
     off : (i j : ℕ) → (e i j ≡ true → ⊥) → weighed w e i j ≡ 0
     off i j h = unpicked (e i j) (w i j) (not-true (e i j) h)
@@ -60,7 +60,7 @@ module _ (c : Code) (F : Formed c) (i x : ℕ) (rows : i + c.b1 ≤ c.n1) where
   unfolding laid_cells laid
   laid_cell-bit a r d lr ld =
       let t = (a + d) % c.b2 in
-      let m : t < c.b2 = mod-lt (a + d) F.b2-pos in
+      let m : t < c.b2 = mod-lt (a + d) F.b2_pos in
       let e : (i + r) * c.b2 + t ≡ i * c.b2 + (r * c.b2 + t) = (let z : (i + r) * c.b2 ≡ i * c.b2 + r * c.b2 = add-mul i r c.b2 in omega arith) in
       ap₂ ◌&&◌ (in_within a c.b2 (a + d) (omega arith) (omega arith))
       (ap (in_window c i (bit x)) e ∙ window-place c F i rows (bit x) (r * c.b2 + t) (digits_lt lr m))
@@ -84,7 +84,7 @@ module _ (c : Code) (F : Formed c) (i x : ℕ) (rows : i + c.b1 ≤ c.n1) where
     unfolding box_pattern box_number laid_digit
     number_is =
         number-equal (c.b1 * c.b2) (laid_digit c.b2 a x) (λ k. laid_cells c i x a (i + k / c.b2) (a + k % c.b2))
-        (λ k l. sym (laid_cell-bit a (k / c.b2) (k % c.b2) ((div-lt_iff_lt-mul F.b2-pos).1 l) (mod-lt k F.b2-pos)))
+        (λ k l. sym (laid_cell-bit a (k / c.b2) (k % c.b2) ((div-lt_iff_lt-mul F.b2_pos).1 l) (mod-lt k F.b2_pos)))
 
     pub laid-number : (i' j : ℕ) → box_cells i a c.b1 c.b2 (box_pattern c.b1 c.b2 a x) i' j ≡ laid_cells c i x a i' j
     laid-number i' j =

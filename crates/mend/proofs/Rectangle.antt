@@ -63,8 +63,8 @@ module _ (n m top left b1 b2 x : ℕ) (rows : top + b1 ≤ n) (columns : left + 
   row-run r lr = record {
     on = columns;
     same = λ d ld. box-cell r d lr ld;
-    from = λ j t. inside.column-from (top + r) j t;
-    to = λ j t. inside.column-to (top + r) j t;
+    from = λ j t. inside.column_from (top + r) j t;
+    to = λ j t. inside.column_to (top + r) j t;
   }
 
   column-run : (d : ℕ) → d < b2 → Run n top b1 (λ i. e i (left + d)) (λ r. bit x (r * b2 + d))
@@ -72,7 +72,7 @@ module _ (n m top left b1 b2 x : ℕ) (rows : top + b1 ≤ n) (columns : left + 
     on = rows;
     same = λ r lr. box-cell r d lr ld;
     from = λ i t. inside.row_from i (left + d) t;
-    to = λ i t. inside.row-to i (left + d) t;
+    to = λ i t. inside.row_to i (left + d) t;
   }
 
   box-cells : cell_count n m e ≡ count_below (b1 * b2) (bit x)
@@ -87,7 +87,7 @@ module _ (n m top left b1 b2 x : ℕ) (rows : top + b1 ≤ n) (columns : left + 
       ∙ cells-flat b1 b2 (λ r d. bit x (r * b2 + d))
       ∙ count-equal (b1 * b2) (λ t. bit x (t / b2 * b2 + t % b2)) (bit x) (λ t l. ap (bit x) (div-add-mod' t b2)))
       (cells-none (n - top - b1) m (λ r. e (top + (b1 + r)))
-      (λ i j li lj. not-true (e (top + (b1 + i)) j) (λ t. let u = inside.row-to (top + (b1 + i)) j t in omega arith))))
+      (λ i j li lj. not-true (e (top + (b1 + i)) j) (λ t. let u = inside.row_to (top + (b1 + i)) j t in omega arith))))
       ∙ (let z : 0 + (count_below (b1 * b2) (bit x) + 0) ≡ count_below (b1 * b2) (bit x) = omega arith in z)
 
   -- the number of a pattern's cells is that of its digits
@@ -132,7 +132,7 @@ module _ (c : Code) (top left b1 b2 x : ℕ) (pos : 0 < b2) (rows : top + b1 ≤
         (row-run c.n1 c.n2 top left b1 b2 x rows columns r lr)
         ∙ sym (line_row x b2 r);
     from = λ i t. let w = any_found c.n2 (cells i) t in in-box.row_from i w.0 w.2;
-    to = λ i t. let w = any_found c.n2 (cells i) t in in-box.row-to i w.0 w.2;
+    to = λ i t. let w = any_found c.n2 (cells i) t in in-box.row_to i w.0 w.2;
   }
 
   columns-run : Run c.n2 left b2 (column_touched c cells) column_has
@@ -143,8 +143,8 @@ module _ (c : Code) (top left b1 b2 x : ℕ) (pos : 0 < b2) (rows : top + b1 ≤
         run-any c.n1 top b1 (λ i. box_cells top left b1 b2 x i (left + d)) (λ r. bit x (r * b2 + d))
         (column-run c.n1 c.n2 top left b1 b2 x rows columns d ld)
         ∙ sym (line-column x b1 b2 d);
-    from = λ j t. let w = any_found c.n1 (λ i. cells i j) t in in-box.column-from w.0 j w.2;
-    to = λ j t. let w = any_found c.n1 (λ i. cells i j) t in in-box.column-to w.0 j w.2;
+    from = λ j t. let w = any_found c.n1 (λ i. cells i j) t in in-box.column_from w.0 j w.2;
+    to = λ j t. let w = any_found c.n1 (λ i. cells i j) t in in-box.column_to w.0 j w.2;
   }
 
   count : ℕ
@@ -242,7 +242,7 @@ module _ (c : Code) (top left b1 b2 x : ℕ) (pos : 0 < b2) (rows : top + b1 ≤
 pub found-report : (c : Code) → Formed c → (v s top left x : ℕ) → IsBurst c v s top left x → report_of c (burst_for c v s) ≡ box_report top left c.b1 c.b2 x
 found-report c F v s top left x b =
     sym (report-cells c (box_cells top left c.b1 c.b2 x) (burst_for c v s) (λ i j li lj. b.cells i j))
-    ∙ box-report c top left c.b1 c.b2 x F.b2-pos b.rows_on b.columns-on
+    ∙ box-report c top left c.b1 c.b2 x F.b2_pos b.rows_on b.columns_on
 
 -- ---- as the code finds it
 

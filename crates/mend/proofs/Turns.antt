@@ -142,25 +142,25 @@ past-before zero p l t = absurd (omega arith)
 past-before (suc k) p l t = let e : suc k - 1 ≡ k = omega arith in let u : p k ≡ false = ap p (sym e) ∙ t in rw (u, e)
 
 pub small-burst : {h : Header} → Small h → BurstSize h.b1 h.b2
-small-burst s = record { b1-pos = s.b1-pos; b1-most = s.b1-most; b2-pos = s.b2-pos; b2-most = s.b2-most }
+small-burst s = record { b1_pos = s.b1_pos; b1_most = s.b1_most; b2_pos = s.b2_pos; b2_most = s.b2_most }
 
 pub box-size : {b1 b2 : ℕ} → BurstSize b1 b2 → b1 * b2 ≤ 16
-box-size b = mul-le-mul b.b1-most b.b2-most
+box-size b = mul-le-mul b.b1_most b.b2_most
 
 pub part-size : {b2 row column height width : ℕ} → Part b2 row column height width → height * width ≤ 16
 part-size {b2} {row} {column} {height} {width} p =
     let m : height ≤ 4 = omega (arith, p.rows_in) in
-    let n : width ≤ 4 = omega (arith, p.columns-in, p.columns-most) in
+    let n : width ≤ 4 = omega (arith, p.columns_in, p.columns_most) in
     mul-le-mul m n
 
 pub record PartPlace (b2 row column width k : ℕ) : Type 0 where
   pub wide : 0 < width
-  pub row-most : row + k / width ≤ 3
-  pub start-most : (row + k / width) * b2 ≤ 12
-  pub column-most : column + k % width ≤ 3
+  pub row_most : row + k / width ≤ 3
+  pub start_most : (row + k / width) * b2 ≤ 12
+  pub column_most : column + k % width ≤ 3
 
 pub part-place : {b2 row column height width : ℕ} → Part b2 row column height width → (k : ℕ) → k < height * width → PartPlace b2 row column width k
 part-place {b2} {row} {column} {height} {width} p k l =
     let q = box-place height width k l in
     let a : row + k / width ≤ 3 = omega (arith, p.rows_in) in
-    record { wide = omega arith; row-most = a; start-most = mul-le-mul a p.columns-most; column-most = omega (arith, p.columns-in, p.columns-most) }
+    record { wide = omega arith; row_most = a; start_most = mul-le-mul a p.columns_most; column_most = omega (arith, p.columns_in, p.columns_most) }

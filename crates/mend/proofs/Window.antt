@@ -99,7 +99,7 @@ few_words c i t v words G = go (length (take n words)) (ap length G.entries ∙ 
 
 module _ (c : Code) (F : Formed c) (i : ℕ) (on : i + c.b1 ≤ c.n1) where
   at_most : c.b1 * c.b2 ≤ 16
-  at_most = mul-le-mul F.b1-most F.b2-most
+  at_most = mul-le-mul F.b1_most F.b2_most
 
   -- the entries of a pattern in the window
   pub pattern-sum : (p : ℕ → Bool) → InWindow c i p → chosen_sum (c.n1 * c.b2) p c.row_entry ≡ window_sum c i (λ k. p (i * c.b2 + k))
@@ -111,8 +111,8 @@ module _ (c : Code) (F : Formed c) (i : ℕ) (on : i + c.b1 ≤ c.n1) where
       out : (k : ℕ) → within i c.b1 (k / c.b2) ≡ true → (i * c.b2 ≤ k → k < i * c.b2 + c.b1 * c.b2 → ⊥) → ⊥
       out k t miss =
           let e : (i + c.b1) * c.b2 ≡ i * c.b2 + c.b1 * c.b2 = add-mul i c.b1 c.b2 in
-          let u : k < (i + c.b1) * c.b2 = (div-lt_iff_lt-mul F.b2-pos).0 (within-to i c.b1 (k / c.b2) t) in
-          miss ((le-div_iff_mul-le F.b2-pos).0 (within-from i c.b1 (k / c.b2) t)) (omega arith)
+          let u : k < (i + c.b1) * c.b2 = (div-lt_iff_lt-mul F.b2_pos).0 (within-to i c.b1 (k / c.b2) t) in
+          miss ((le-div_iff_mul-le F.b2_pos).0 (within-from i c.b1 (k / c.b2) t)) (omega arith)
 
   pub in_window-holds : (m : ℕ → Bool) → InWindow c i (in_window c i m)
   unfolding in_window
@@ -120,8 +120,8 @@ module _ (c : Code) (F : Formed c) (i : ℕ) (on : i + c.b1 ≤ c.n1) where
       let w = and_left (within (i * c.b2) (c.b1 * c.b2) k) (m (k - i * c.b2)) t in
       let e : (i + c.b1) * c.b2 ≡ i * c.b2 + c.b1 * c.b2 = add-mul i c.b1 c.b2 in
       let u : k < i * c.b2 + c.b1 * c.b2 = within-to (i * c.b2) (c.b1 * c.b2) k w in
-      in_within i c.b1 (k / c.b2) ((le-div_iff_mul-le F.b2-pos).1 (within-from (i * c.b2) (c.b1 * c.b2) k w))
-      ((div-lt_iff_lt-mul F.b2-pos).1 (let z : k < (i + c.b1) * c.b2 = omega arith in z))
+      in_within i c.b1 (k / c.b2) ((le-div_iff_mul-le F.b2_pos).1 (within-from (i * c.b2) (c.b1 * c.b2) k w))
+      ((div-lt_iff_lt-mul F.b2_pos).1 (let z : k < (i + c.b1) * c.b2 = omega arith in z))
 
   pub window-place : (m : ℕ → Bool) (k : ℕ) → k < c.b1 * c.b2 → in_window c i m (i * c.b2 + k) ≡ m k
   unfolding in_window
@@ -150,8 +150,8 @@ module _ (c : Code) (F : Formed c) (i : ℕ) (on : i + c.b1 ≤ c.n1) where
       let e : length (listed n (λ k. true) (entry_at c i)) ≡ n = window-length in
       let lk : k < n = omega arith in
       let f : i * c.b2 + n ≤ c.n1 * c.b2 = rows_fit i c.b1 c.n1 c.b2 on in
-      let b : entry_at c i k < 2 ^ c.rv = F.row-entries (i * c.b2 + k) (omega arith) in
-      let p : 2 ^ c.rv ≤ 2 ^ 64 = pow_mono (let r : c.rv ≤ 64 = (let r = F.rv-most in omega arith) in r) in
+      let b : entry_at c i k < 2 ^ c.rv = F.row_entries (i * c.b2 + k) (omega arith) in
+      let p : 2 ^ c.rv ≤ 2 ^ 64 = pow_mono (let r : c.rv ≤ 64 = (let r = F.rv_most in omega arith) in r) in
       rw (listed_at n (entry_at c i) k lk) (lt_of_lt_of_le b p)
 
   -- as many of the window's positions are chosen as of its entries, at most; and back

@@ -30,7 +30,7 @@ first_burst c v s = let t = first_trial c v s in cond (has_burst c v s) (Burst (
 
 pub record IsBurst (c : Code) (v s top left x : ℕ) : Type 0 where
   pub rows_on : top + c.b1 ≤ c.n1
-  pub columns-on : left + c.b2 ≤ c.n2
+  pub columns_on : left + c.b2 ≤ c.n2
   pub below : x < 2 ^ (c.b1 * c.b2)
   pub has : has_burst c v s ≡ true
   pub cells : (i j : ℕ) → box_cells top left c.b1 c.b2 x i j ≡ burst_for c v s i j

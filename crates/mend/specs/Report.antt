@@ -48,12 +48,12 @@ abbrev pub report_as : Report → code.Report
 report_as r = record { cells = r.cells; top = r.top; left = r.left; height = r.height; width = r.width; pattern = r.pattern }
 
 pub record Lines (jump step count lines : ℕ) : Type 0 where
-  pub jump-most : jump ≤ 4
-  pub step-most : step ≤ 4
+  pub jump_most : jump ≤ 4
+  pub step_most : step ≤ 4
   pub count_most : count ≤ 4
-  pub lines-most : lines ≤ 4
+  pub lines_most : lines ≤ 4
 
 pub record Part (b2 row column height width : ℕ) : Type 0 where
-  pub columns-most : b2 ≤ 4
+  pub columns_most : b2 ≤ 4
   pub rows_in : row + height ≤ 4
-  pub columns-in : column + width ≤ b2
+  pub columns_in : column + width ≤ b2

@@ -16,10 +16,10 @@ use Rattle.mend.specs.declared.found.Found.{Found}
 use Rattle.mend.specs.declared.found.Found.TheVariants.{Burst, Nothing}
 
 pub record BurstSize (b1 b2 : ℕ) : Type 0 where
-  pub b1-pos : 1 ≤ b1
-  pub b1-most : b1 ≤ 4
-  pub b2-pos : 1 ≤ b2
-  pub b2-most : b2 ≤ 4
+  pub b1_pos : 1 ≤ b1
+  pub b1_most : b1 ≤ 4
+  pub b2_pos : 1 ≤ b2
+  pub b2_most : b2 ≤ 4
 
 -- of column a + d. u is the row's remainder modulo b1, and its digits begin at first
 unfoldable pub laid_cell : ℕ → ℕ → (ℕ → ℕ) → ℕ → ℕ → ℕ → ℕ → ℕ → ℕ

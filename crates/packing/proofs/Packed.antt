@@ -28,34 +28,34 @@ use Rattle.mend.specs.Report.{report_as}
 use Rattle.packing.specs.Packed.{report_fields, burst_answer}
 
 pub record ReportFits (r : Report) : Type 0 where
-  pub cells-fits : r.cells < 32
-  pub top-fits : r.top < 512
-  pub left-fits : r.left < 1024
-  pub height-fits : r.height < 8
+  pub cells_fits : r.cells < 32
+  pub top_fits : r.top < 512
+  pub left_fits : r.left < 1024
+  pub height_fits : r.height < 8
   pub width_fits : r.width < 8
-  pub pattern-fits : r.pattern < 65536
+  pub pattern_fits : r.pattern < 65536
 
 pub none-fits : ReportFits (report_as no_report)
 none-fits = record {
-  cells-fits = omega arith;
-  top-fits = omega arith;
-  left-fits = omega arith;
-  height-fits = omega arith;
+  cells_fits = omega arith;
+  top_fits = omega arith;
+  left_fits = omega arith;
+  height_fits = omega arith;
   width_fits = omega arith;
-  pattern-fits = omega arith;
+  pattern_fits = omega arith;
 }
 
 pub fields-range : (v : Verdict) (r : Report) → SmallVerdict v → ReportFits r → InRange (report_fields v r)
 fields-range v r f g = record {
   number_fits = f.number_fits;
-  p-fits = f.p-fits;
-  q-fits = f.q-fits;
-  cells-fits = g.cells-fits;
-  top-fits = g.top-fits;
-  left-fits = g.left-fits;
-  height-fits = g.height-fits;
+  p_fits = f.p_fits;
+  q_fits = f.q_fits;
+  cells_fits = g.cells_fits;
+  top_fits = g.top_fits;
+  left_fits = g.left_fits;
+  height_fits = g.height_fits;
   width_fits = g.width_fits;
-  pattern-fits = g.pattern-fits;
+  pattern_fits = g.pattern_fits;
 }
 
 -- a refusal has no report
@@ -78,12 +78,12 @@ module _ (c : Code) (F : Formed c) (e : Cells) (B : Burst c e) where
   burst-fits =
       let s = burst-report c F e B in
       record {
-        cells-fits = omega (arith, s.cells-most);
-        top-fits = omega (arith, s.top-on, F.n1-most);
-        left-fits = omega (arith, s.left-on, F.n2-most);
-        height-fits = omega (arith, s.height-most, F.b1-most);
-        width_fits = omega (arith, s.width-most, F.b2-most);
-        pattern-fits = s.pattern-most;
+        cells_fits = omega (arith, s.cells_most);
+        top_fits = omega (arith, s.top_on, F.n1_most);
+        left_fits = omega (arith, s.left_on, F.n2_most);
+        height_fits = omega (arith, s.height_most, F.b1_most);
+        width_fits = omega (arith, s.width_most, F.b2_most);
+        pattern_fits = s.pattern_most;
       }
 
   pub answer-range : InRange (report_fields accepted (report_as (report_of c e)))

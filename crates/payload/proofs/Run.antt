@@ -55,15 +55,15 @@ pub reaches : (lay : Layout) (c : Code) (F : Formed c) (r : Cursor) → At c r �
     → bits ≡ row_bytes (data_size c) → n2 ≡ c.n2 → sheet ≡ size_in lay c.n1 c.n2 → len ≡ run_length c.n2 r → Reaches k bits lay c.n1 n2 sheet len r
 unfolding data_size
 reaches lay c F r A l k bits n2 sheet len ek eb en es el =
-    let m = sheet-cells F.n1-most F.n2-most in
+    let m = sheet-cells F.n1_most F.n2_most in
     let d = run-column c F r A l in
     record {
-      k-most = omega arith;
-      sizes = record { n1-most = F.n1-most; n2-most = omega (arith, F.n2-most) };
-      sheet-size = rw en es;
-      ends-most = let e = ends-most c F r.row A.row-most in omega (arith, A.ends_is);
+      k_most = omega arith;
+      sizes = record { n1_most = F.n1_most; n2_most = omega (arith, F.n2_most) };
+      sheet_len = rw en es;
+      ends_most = let e = ends-most c F r.row A.row_most in omega (arith, A.ends_is);
       row_below = l;
-      column-most = omega arith;
+      column_most = omega arith;
       room = λ j b. run_room c F r A l j (omega arith);
       bit_in = λ j b. place_inside k (bit_at r j) bits (eb ∙ ap row_bytes (sym ek)) (let w = run-below c F r A l j (omega arith) in omega arith);
     }

@@ -21,11 +21,11 @@ take_run (suc j) lay n1 n2 sheet k bits r =
     turned_if (cell_in lay n1 n2 sheet r.row (r.column + j)) k (take_run j lay n1 n2 sheet k bits r) 0 (bit_at r j)
 
 pub record Reaches (k bits : ℕ) (lay : Layout) (n1 n2 sheet len : ℕ) (r : Cursor) : Type 0 where
-  pub k-most : k ≤ 1000000
+  pub k_most : k ≤ 1000000
   pub sizes : Sizes n1 n2
-  pub sheet-size : sheet ≡ size_in lay n1 n2
-  pub ends-most : r.ends ≤ 1000000
+  pub sheet_len : sheet ≡ size_in lay n1 n2
+  pub ends_most : r.ends ≤ 1000000
   pub row_below : r.row < n1
-  pub column-most : r.column + len ≤ n2
+  pub column_most : r.column + len ≤ n2
   pub room : (j : ℕ) → j < len → r.place + j < r.ends
   pub bit_in : (j : ℕ) → j < len → byte_of k 0 (bit_at r j) < bits

@@ -1,6 +1,6 @@
 -- Checks 1 to 7 pass exactly where the rules of form hold.
 --
---   at-zero, zero-at              a search that names no place: it ran to its end
+--   at_zero, zero-at              a search that names no place: it ran to its end
 --   header-passes                 a framed plan passes checks 1 to 5 and 23 (framed, in Framing.antt, is the other way)
 --   entries_below, below-entries  check 6 passes exactly where every entry has its bits
 --   pairs-right, right-pairs      check 7 passes exactly where the check list is on the sheet and rises
@@ -46,9 +46,9 @@ header-passes s F =
     let o : bad_offsets (length s) h ≡ false =
     rw (
       eq-eqb h.rows header_length F.rows_at,
-      eq-eqb h.columns (columns_start h) F.columns-at,
-      eq-eqb h.checks (checks_start h) F.checks-at,
-      eq-eqb h.total (plan_length h) F.total-at,
+      eq-eqb h.columns (columns_start h) F.columns_from,
+      eq-eqb h.checks (checks_start h) F.checks_at,
+      eq-eqb h.total (plan_length h) F.total_at,
       eq-eqb (length s) (plan_length h) F.long,
     ) in
     else-if (ltb (length s) header_length) _ _ (le-ltb (length s) header_length (omega (arith, F.long)))
@@ -155,24 +155,24 @@ unfolding code_of
 rules s F entries pairs =
     let p = F.small in
     record {
-      b1-pos = p.b1-pos;
-      b1-most = p.b1-most;
-      b2-pos = p.b2-pos;
-      b2-most = p.b2-most;
-      n1-least = p.n1-least;
-      n1-most = p.n1-most;
-      n2-least = p.n2-least;
-      n2-most = p.n2-most;
-      rv-pos = p.rv-pos;
-      rv-most = p.rv-most;
-      rh-pos = p.rh-pos;
-      rh-most = p.rh-most;
-      t-most = p.t-most;
-      row-entries = entries.0;
-      column-entries = entries.1;
-      check-rows = λ k l. (pairs k l).row;
-      check-columns = λ k l. (pairs k l).column;
-      check-rising = λ k l. number-rises (code_of s) k (pairs k (omega arith)).column (pairs (suc k) l).after;
+      b1_pos = p.b1_pos;
+      b1_most = p.b1_most;
+      b2_pos = p.b2_pos;
+      b2_most = p.b2_most;
+      n1_least = p.n1_least;
+      n1_most = p.n1_most;
+      n2_least = p.n2_least;
+      n2_most = p.n2_most;
+      rv_pos = p.rv_pos;
+      rv_most = p.rv_most;
+      rh_pos = p.rh_pos;
+      rh_most = p.rh_most;
+      t_most = p.t_most;
+      row_entries = entries.0;
+      column_entries = entries.1;
+      check_rows = λ k l. (pairs k l).row;
+      check_columns = λ k l. (pairs k l).column;
+      check_rising = λ k l. number-rises (code_of s) k (pairs k (omega arith)).column (pairs (suc k) l).after;
     }
 
 pub formed : (s : List ℕ) → (form_verdict s).number ≡ 0 → Framed s (header_of s) × Formed (code_of s)
@@ -185,16 +185,16 @@ formed s e =
 
 -- a pair of a formed code is right
 formed-pair : (c : Code) → Formed c → (k : ℕ) → k < c.rv + c.rh → Pair c k
-formed-pair c G zero l = record { row = G.check-rows 0 l; column = G.check-columns 0 l; after = rises-first c }
+formed-pair c G zero l = record { row = G.check_rows 0 l; column = G.check_columns 0 l; after = rises-first c }
 formed-pair c G (suc k) l = record {
-  row = G.check-rows (suc k) l;
-  column = G.check-columns (suc k) l;
-  after = rises-number c k (G.check-columns (suc k) l) (G.check-rising k l);
+  row = G.check_rows (suc k) l;
+  column = G.check_columns (suc k) l;
+  after = rises-number c k (G.check_columns (suc k) l) (G.check_rising k l);
 }
 
 pub form-passes : (s : List ℕ) → Framed s (header_of s) → Formed (code_of s) → form_verdict s ≡ accepted
 unfolding form_verdict
 form-passes s F G =
     else-second (header_verdict s) _ (ap (λ (v : Verdict). v.number) (header-passes s F))
-    ∙ else-second (entries_verdict (code_of s)) _ (ap (λ (v : Verdict). v.number) (below-entries (code_of s) G.row-entries G.column-entries))
+    ∙ else-second (entries_verdict (code_of s)) _ (ap (λ (v : Verdict). v.number) (below-entries (code_of s) G.row_entries G.column_entries))
     ∙ right-pairs (code_of s) (formed-pair (code_of s) G)

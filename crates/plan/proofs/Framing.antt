@@ -42,31 +42,31 @@ small h p q r s =
     let burst = four (eqb h.b1 0) (ltb 4 h.b1) (eqb h.b2 0) (ltb 4 h.b2) p in
     let sheet = four (ltb h.n1 h.b1) (ltb 512 h.n1) (ltb h.n2 h.b2) (ltb 698 h.n2) q in
     let widths = four (eqb h.rv 0) (ltb 32 h.rv) (eqb h.rh 0) (ltb 32 h.rh) r in
-    let n1-most : h.n1 ≤ 512 = ltb-false 512 h.n1 sheet.1 in
-    let n2-most : h.n2 ≤ 698 = ltb-false 698 h.n2 sheet.3 in
-    let b1-most : h.b1 ≤ 4 = ltb-false 4 h.b1 burst.1 in
-    let b2-most : h.b2 ≤ 4 = ltb-false 4 h.b2 burst.3 in
+    let n1_most : h.n1 ≤ 512 = ltb-false 512 h.n1 sheet.1 in
+    let n2_most : h.n2 ≤ 698 = ltb-false 698 h.n2 sheet.3 in
+    let b1_most : h.b1 ≤ 4 = ltb-false 4 h.b1 burst.1 in
+    let b2_most : h.b2 ≤ 4 = ltb-false 4 h.b2 burst.3 in
     let b1-some = eqb-false h.b1 0 burst.0 in
     let b2-some = eqb-false h.b2 0 burst.2 in
     let rv-some = eqb-false h.rv 0 widths.0 in
     let rh-some = eqb-false h.rh 0 widths.2 in
     record {
-      b1-pos = omega arith;
-      b1-most = b1-most;
-      b2-pos = omega arith;
-      b2-most = b2-most;
-      n1-least = ltb-false h.n1 h.b1 sheet.0;
-      n1-most = n1-most;
-      n2-least = ltb-false h.n2 h.b2 sheet.2;
-      n2-most = n2-most;
-      rv-pos = omega arith;
-      rv-most = ltb-false 32 h.rv widths.1;
-      rh-pos = omega arith;
-      rh-most = ltb-false 32 h.rh widths.3;
-      t-most = ltb-false 2 h.t s;
-      row-positions = mul-le-mul n1-most b2-most;
-      column-positions = mul-le-mul n2-most b1-most;
-      box-positions = mul-le-mul b1-most b2-most;
+      b1_pos = omega arith;
+      b1_most = b1_most;
+      b2_pos = omega arith;
+      b2_most = b2_most;
+      n1_least = ltb-false h.n1 h.b1 sheet.0;
+      n1_most = n1_most;
+      n2_least = ltb-false h.n2 h.b2 sheet.2;
+      n2_most = n2_most;
+      rv_pos = omega arith;
+      rv_most = ltb-false 32 h.rv widths.1;
+      rh_pos = omega arith;
+      rh_most = ltb-false 32 h.rh widths.3;
+      t_most = ltb-false 2 h.t s;
+      row_positions = mul-le-mul n1_most b2_most;
+      column_positions = mul-le-mul n2_most b1_most;
+      box_positions = mul-le-mul b1_most b2_most;
     }
 
 pub sizes-small : (h : Header) → (sizes_verdict h).number ≡ 0 → Small h
@@ -86,15 +86,15 @@ pub small-sizes : (h : Header) → Small h → sizes_verdict h ≡ accepted
 unfolding sizes_verdict bad_burst bad_sheet bad_widths bad_cells
 small-sizes h p =
     else-if (bad_burst h) _ _
-    (four-false _ _ _ _ (ne_eqb h.b1 0 (λ e. omega (arith, p.b1-pos))) (le-ltb 4 h.b1 p.b1-most) (ne_eqb h.b2 0 (λ e. omega (arith, p.b2-pos)))
-    (le-ltb 4 h.b2 p.b2-most))
+    (four-false _ _ _ _ (ne_eqb h.b1 0 (λ e. omega (arith, p.b1_pos))) (le-ltb 4 h.b1 p.b1_most) (ne_eqb h.b2 0 (λ e. omega (arith, p.b2_pos)))
+    (le-ltb 4 h.b2 p.b2_most))
     ∙ else-if (bad_sheet h) _ _
-    (four-false _ _ _ _ (le-ltb h.n1 h.b1 p.n1-least) (le-ltb 512 h.n1 p.n1-most) (le-ltb h.n2 h.b2 p.n2-least)
-    (le-ltb 698 h.n2 p.n2-most))
+    (four-false _ _ _ _ (le-ltb h.n1 h.b1 p.n1_least) (le-ltb 512 h.n1 p.n1_most) (le-ltb h.n2 h.b2 p.n2_least)
+    (le-ltb 698 h.n2 p.n2_most))
     ∙ else-if (bad_widths h) _ _
-    (four-false _ _ _ _ (ne_eqb h.rv 0 (λ e. omega (arith, p.rv-pos))) (le-ltb 32 h.rv p.rv-most) (ne_eqb h.rh 0 (λ e. omega (arith, p.rh-pos)))
-    (le-ltb 32 h.rh p.rh-most))
-    ∙ ap (λ (t : Bool). verdict_if t (refusal 23 0 0)) (le-ltb 2 h.t p.t-most)
+    (four-false _ _ _ _ (ne_eqb h.rv 0 (λ e. omega (arith, p.rv_pos))) (le-ltb 32 h.rv p.rv_most) (ne_eqb h.rh 0 (λ e. omega (arith, p.rh_pos)))
+    (le-ltb 32 h.rh p.rh_most))
+    ∙ ap (λ (t : Bool). verdict_if t (refusal 23 0 0)) (le-ltb 2 h.t p.t_most)
 
 -- a negated equality test that fails
 same : (a b : ℕ) → not (eqb a b) ≡ false → a ≡ b
@@ -113,9 +113,9 @@ framed s e =
       is = refl;
       small = sizes-small h sizes.0;
       rows_at = same h.rows header_length three.0;
-      columns-at = same h.columns (columns_start h) three.1;
-      checks-at = same h.checks (checks_start h) three.2;
-      total-at = same h.total (plan_length h) three.3;
+      columns_from = same h.columns (columns_start h) three.1;
+      checks_at = same h.checks (checks_start h) three.2;
+      total_at = same h.total (plan_length h) three.3;
       long = same (length s) (plan_length h) offsets.1;
     }
 
@@ -125,8 +125,8 @@ position-fits i j b n l p = digits_lt l (mod-lt j p)
 
 -- either table has room in 2,792 words
 pub table-room : (h : Header) (t : Table) → Small h → entries_of h t ≤ 2792
-table-room h Rows p = omega (arith, p.row-positions)
-table-room h Columns p = p.column-positions
+table-room h Rows p = omega (arith, p.row_positions)
+table-room h Columns p = p.column_positions
 
 pub framed-code : (s : List ℕ) (h : Header) → Framed s h → code_with s h ≡ code_of s
 unfolding code_of

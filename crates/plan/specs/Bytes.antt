@@ -59,4 +59,4 @@ pub record Weight (w r : ℕ) : Type 0 where
 pub record CheckCell (s : List ℕ) (h : Header) (k : ℕ) (r : Cell) : Type 0 where
   pub value : r ≡ check_cell_at s h k
   pub row_below : r.row < 65536
-  pub column-below : r.column < 65536
+  pub column_below : r.column < 65536

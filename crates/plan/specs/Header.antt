@@ -54,28 +54,28 @@ ruled h = record {
 
 -- checks 2 to 4 and 23 hold of a header, and what follows for the sizes of its tables
 pub record Small (h : Header) : Type 0 where
-  pub b1-pos : 1 ≤ h.b1
-  pub b1-most : h.b1 ≤ 4
-  pub b2-pos : 1 ≤ h.b2
-  pub b2-most : h.b2 ≤ 4
-  pub n1-least : h.b1 ≤ h.n1
-  pub n1-most : h.n1 ≤ 512
-  pub n2-least : h.b2 ≤ h.n2
-  pub n2-most : h.n2 ≤ 698
-  pub rv-pos : 1 ≤ h.rv
-  pub rv-most : h.rv ≤ 32
-  pub rh-pos : 1 ≤ h.rh
-  pub rh-most : h.rh ≤ 32
-  pub t-most : h.t ≤ 2
-  pub row-positions : h.n1 * h.b2 ≤ 2048
-  pub column-positions : h.n2 * h.b1 ≤ 2792
-  pub box-positions : h.b1 * h.b2 ≤ 16
+  pub b1_pos : 1 ≤ h.b1
+  pub b1_most : h.b1 ≤ 4
+  pub b2_pos : 1 ≤ h.b2
+  pub b2_most : h.b2 ≤ 4
+  pub n1_least : h.b1 ≤ h.n1
+  pub n1_most : h.n1 ≤ 512
+  pub n2_least : h.b2 ≤ h.n2
+  pub n2_most : h.n2 ≤ 698
+  pub rv_pos : 1 ≤ h.rv
+  pub rv_most : h.rv ≤ 32
+  pub rh_pos : 1 ≤ h.rh
+  pub rh_most : h.rh ≤ 32
+  pub t_most : h.t ≤ 2
+  pub row_positions : h.n1 * h.b2 ≤ 2048
+  pub column_positions : h.n2 * h.b1 ≤ 2792
+  pub box_positions : h.b1 * h.b2 ≤ 16
 
 pub record Framed (s : List ℕ) (h : Header) : Type 0 where
   pub is : h ≡ header_of s
   pub small : Small h
   pub rows_at : h.rows ≡ header_length
-  pub columns-at : h.columns ≡ columns_start h
-  pub checks-at : h.checks ≡ checks_start h
-  pub total-at : h.total ≡ plan_length h
+  pub columns_from : h.columns ≡ columns_start h
+  pub checks_at : h.checks ≡ checks_start h
+  pub total_at : h.total ≡ plan_length h
   pub long : length s ≡ plan_length h

@@ -40,12 +40,12 @@ both-before c t = count-not t (check_at c)
 pub ends-most : (c : Code) → Formed c → (row : ℕ) → row ≤ c.n1 → row_ends c row ≤ 715450
 unfolding row_ends
 ends-most c F row l =
-    let w : row ≤ 512 = omega (arith, F.n1-most) in
-    let m = sheet-cells w F.n2-most in
+    let w : row ≤ 512 = omega (arith, F.n1_most) in
+    let m = sheet-cells w F.n2_most in
     let n = rows_next row c.n2 in
     let a = both-before c (row * c.n2) in
     let b = both-before c ((row + 1) * c.n2) in
-    omega (arith, F.n2-most)
+    omega (arith, F.n2_most)
 
 pub ends-are : (c : Code) (row check past : ℕ) → check ≡ checks_before c (row * c.n2) → past ≡ checks_before c ((row + 1) * c.n2)
     → (row * c.n2 - check) + ((row + 1) * c.n2 - past) ≡ row_ends c row

@@ -31,7 +31,7 @@ module _ (c : Code) (F : Formed c) where
   module _ (n : ℕ) (l : n < data_size c) where
     pub count_most : n ≤ 357376
     unfolding data_size
-    count_most = omega (arith, sheet-cells F.n1-most F.n2-most)
+    count_most = omega (arith, sheet-cells F.n1_most F.n2_most)
 
     pub follows-here : (q next : ℕ) → UpTo c (n + q) q → next ≡ next_check c q → n + q < next → Follows c n (n + q)
     unfolding data_size

@@ -31,12 +31,12 @@ pub at-begin : (c : Code) (next ends : ℕ) → next ≡ next_check c 0 → ends
     → At c (record { cell = 0; row = 0; column = 0; place = 0; check = 0; next = next; ends = ends })
 unfolding checks_before data_before count_below
 at-begin c next ends en ee = record {
-  row-most = omega arith;
-  column-most = omega arith;
+  row_most = omega arith;
+  column_most = omega arith;
   number = let z : 0 * c.n2 ≡ 0 = zero-mul c.n2 in omega arith;
   place_is = refl;
-  check-is = refl;
-  next-is = en;
+  check_is = refl;
+  next_is = en;
   ends_is = ee;
 }
 
@@ -49,14 +49,14 @@ module _ (c : Code) (F : Formed c) (r : Cursor) (A : At c r) (l : r.row < c.n1) 
   row-cells = mul-le-mul_right c.n2 (omega arith)
 
   pub at_most : r.cell ≤ c.n1 * c.n2
-  at_most = let m = row-cells in let n = rows_next r.row c.n2 in omega (arith, A.number, A.column-most)
+  at_most = let m = row-cells in let n = rows_next r.row c.n2 in omega (arith, A.number, A.column_most)
 
   pub at_ahead : r.cell ≤ r.next
-  at_ahead = rw A.next-is (next-ahead c F r.cell r.check A.check-is at_most)
+  at_ahead = rw A.next_is (next-ahead c F r.cell r.check A.check_is at_most)
 
   pub run-column : r.column + run_length c.n2 r ≤ c.n2
   unfolding run_length
-  run-column = omega (arith, A.column-most)
+  run-column = omega (arith, A.column_most)
 
   pub run-next : r.cell + run_length c.n2 r ≤ r.next
   unfolding run_length
@@ -64,17 +64,17 @@ module _ (c : Code) (F : Formed c) (r : Cursor) (A : At c r) (l : r.row < c.n1) 
 
   module _ (j : ℕ) (b : j ≤ run_length c.n2 r) where
     near : r.cell + j ≤ next_check c r.check
-    near = let e = run-next in let n = A.next-is in omega arith
+    near = let e = run-next in let n = A.next_is in omega arith
 
     run-check : r.check ≡ checks_before c (r.cell + j)
-    run-check = next-kept c F r.cell r.check A.check-is (r.cell + j) (omega arith) near
+    run-check = next-kept c F r.cell r.check A.check_is (r.cell + j) (omega arith) near
 
     run-place : r.place + j ≡ data_before c (r.cell + j)
     run-place =
         let e = run-check in
         let s = both-before c r.cell in
         let t = both-before c (r.cell + j) in
-        omega (arith, A.check-is, A.place_is)
+        omega (arith, A.check_is, A.place_is)
 
   -- ---- a cell of the run
 
@@ -82,8 +82,8 @@ module _ (c : Code) (F : Formed c) (r : Cursor) (A : At c r) (l : r.row < c.n1) 
     pub run-free : check_at c (r.cell + j) ≡ false
     run-free =
         let e = run-next in
-        let n = A.next-is in
-        next-free c F r.cell r.check A.check-is (r.cell + j) (omega arith) (omega arith)
+        let n = A.next_is in
+        next-free c F r.cell r.check A.check_is (r.cell + j) (omega arith) (omega arith)
 
     inside : r.column + j < c.n2
     inside = let m = run-column in omega arith
@@ -156,12 +156,12 @@ module _ (c : Code) (F : Formed c) (r : Cursor) (A : At c r) (l : r.row < c.n1) 
         (record { cell = r.cell + len; row = r.row + 1; column = 0; place = r.place + len; check = r.check; next = r.next; ends = ends })
     step_row ends e ee = record {
       at = record {
-        row-most = omega arith;
-        column-most = omega arith;
+        row_most = omega arith;
+        column_most = omega arith;
         number = let s = row-start e in omega arith;
         place_is = past-place;
-        check-is = past-check;
-        next-is = A.next-is;
+        check_is = past-check;
+        next_is = A.next_is;
         ends_is = ee;
       };
       on = omega arith;
@@ -173,7 +173,7 @@ module _ (c : Code) (F : Formed c) (r : Cursor) (A : At c r) (l : r.row < c.n1) 
     module _ (ne : r.column + len ≡ c.n2 → ⊥) where
       pub at_next : r.cell + len ≡ r.next
       unfolding run_length
-      at_next = let a = at_ahead in omega (arith, A.column-most)
+      at_next = let a = at_ahead in omega (arith, A.column_most)
 
       next-on : r.next < c.n1 * c.n2
       next-on =
@@ -184,7 +184,7 @@ module _ (c : Code) (F : Formed c) (r : Cursor) (A : At c r) (l : r.row < c.n1) 
           omega (arith, A.number)
 
       pub check-left : r.check < c.rv + c.rh
-      check-left = next-left c F r.check r.next A.next-is next-on
+      check-left = next-left c F r.check r.next A.next_is next-on
 
       pub step-check : (next : ℕ) → next ≡ next_check c (r.check + 1)
           → Stepped c r (record {
@@ -200,24 +200,24 @@ module _ (c : Code) (F : Formed c) (r : Cursor) (A : At c r) (l : r.row < c.n1) 
           let e = at_next in
           let d = run-column in
           let k : r.check + 1 ≡ checks_before c (r.next + 1) =
-          next-passed c F r.check r.next A.next-is next-on (past-check ∙ ap (checks_before c) e) in
+          next-passed c F r.check r.next A.next_is next-on (past-check ∙ ap (checks_before c) e) in
           let s = both-before c (r.cell + len) in
           let t = both-before c (r.next + 1) in
           let p = past-place in
           let q = past-check in
           record {
             at = record {
-              row-most = omega arith;
-              column-most = omega arith;
+              row_most = omega arith;
+              column_most = omega arith;
               number = omega (arith, A.number);
               place_is = omega arith;
-              check-is = k;
-              next-is = en;
+              check_is = k;
+              next_is = en;
               ends_is = A.ends_is;
             };
             on = omega arith;
             past = omega arith;
             checks = λ t u v.
                 let z : t ≡ r.next = omega arith in
-                ap (check_at c) z ∙ next-check c F r.check r.next A.next-is next-on;
+                ap (check_at c) z ∙ next-check c F r.check r.next A.next_is next-on;
           }

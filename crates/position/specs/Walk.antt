@@ -30,12 +30,12 @@ unfoldable pub row_ends : Code → ℕ → ℕ
 row_ends c i = data_before c (i * c.n2) + data_before c ((i + 1) * c.n2)
 
 pub record At (c : Code) (r : Cursor) : Type 0 where
-  pub row-most : r.row ≤ c.n1
-  pub column-most : r.column ≤ c.n2
+  pub row_most : r.row ≤ c.n1
+  pub column_most : r.column ≤ c.n2
   pub number : r.row * c.n2 + r.column ≡ r.cell
   pub place_is : r.place ≡ data_before c r.cell
-  pub check-is : r.check ≡ checks_before c r.cell
-  pub next-is : r.next ≡ next_check c r.check
+  pub check_is : r.check ≡ checks_before c r.cell
+  pub next_is : r.next ≡ next_check c r.check
   pub ends_is : r.ends ≡ row_ends c r.row
 
 unfoldable pub run_length : ℕ → Cursor → ℕ

@@ -103,11 +103,11 @@ first-differs plan first second i j P S T li lj h =
     let r = differing_row c first second in
     let m : r ≤ i = least-most c.n1 (row_differs c first second) i (other_row plan first second i j lj h) in
     let l : r < c.n1 = omega arith in
-    let B : BothInForm plan first second = record { accepted = accepted-plan plan P; first-form = S; second-form = T } in
+    let B : BothInForm plan first second = record { accepted = accepted-plan plan P; first_form = S; second_form = T } in
     let e = outcomes.difference-row plan first second (ap (λ (v : Verdict). v.number) (boths-pass plan first second B)) l in (
       r,
       record {
-        on-sheet = l;
+        on_sheet = l;
         before = λ a b la lb. row_same plan first second a (least_first c.n1 (row_differs c first second) a la) b lb;
         here = row_other plan first second r (least-found c.n1 (row_differs c first second) l);
         hands = hands-row plan first second r e;

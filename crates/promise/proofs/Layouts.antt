@@ -43,7 +43,7 @@ use Rattle.promise.specs.Layouts.{outcome_turned}
 pub turn-done : promise.TurnDone
 unfolding turn_over
 turn-done lay plan ok source target f l =
-    rw (transposes-pass lay plan source target (record { accepted = accepted-plan plan ok; form = f; target-size = l }))
+    rw (transposes-pass lay plan source target (record { accepted = accepted-plan plan ok; form = f; target_size = l }))
 
 pub keeps-cells : promise.KeepsCells
 unfolding turned_sheet
@@ -75,7 +75,7 @@ module _ (lay : Layout) (plan : List ℕ) (A : Accepted plan) where
   unfolding length_checks
   lengths-left sheet bits l =
       else-second (sheet_checks lay plan sheet) _
-      (ap (λ (v : Verdict). v.number) (sheets-pass lay plan sheet (record { accepted = A; sheet-size = l })))
+      (ap (λ (v : Verdict). v.number) (sheets-pass lay plan sheet (record { accepted = A; sheet_len = l })))
 
   writes-left : (bits sheet : List ℕ) → PageIn lay plan sheet
       → write_checks lay plan bits sheet ≡ data_length (code_of plan) bits or_else data_unused (code_of plan) bits

@@ -1,7 +1,7 @@
 -- The promise, proved: one declaration for each theorem of specs/Promise.antt, of that type. A written sheet with a burst on
 -- it is fitted by that burst, so it is read back; and from equal sheets the same data is read.
 --
---   plan-test, made-passes, written_once, leaves, apart, read-back, read-clean, answers, one-burst, reports, turns
+--   plan-test, made-passes, written_once, leaves, apart, read_back, read-clean, answers, one-burst, reports, turns
 --
 -- Assumes nothing.
 use mathlib.Core.Path.{◌≡◌, refl, sym, ap, ap₂, ◌∙◌}
@@ -47,8 +47,8 @@ pub turns : promise.Turns
 turns lay plan ok sheet = record {
   form = corrupted-form lay plan sheet;
   cell = corrupted-cell lay plan sheet;
-  empty-burst = burst-none (code_of plan) (accepted-plan plan ok).formed;
-  empty-turns = corrupted-none lay plan sheet;
+  empty_burst = burst-none (code_of plan) (accepted-plan plan ok).formed;
+  empty_turns = corrupted-none lay plan sheet;
 }
 
 -- ---- writing
@@ -90,14 +90,14 @@ leaves lay plan ok bits old right l = rw checks
     checks : write_checks lay plan bits old ≡ accepted
     checks =
         let A = accepted-plan plan ok in
-        writes-pass lay plan bits old (record { lengths = record { accepted = A; sheet-size = l; bits-size = bits-long lay plan A bits right }; form = right })
+        writes-pass lay plan bits old (record { lengths = record { accepted = A; sheet_len = l; bits_size = bits-long lay plan A bits right }; form = right })
 
 -- ---- reading
 
 pub answers : promise.Answers
 answers lay plan ok sheet old form l = record {
   number = either (none_or_some lay plan A sheet old form l);
-  none-fits = (λ n e B f. apart-numbers (some (e, B, f)) n, none);
+  none_fits = (λ n e B f. apart-numbers (some (e, B, f)) n, none);
   some_fits = (λ n. found n (none_or_some lay plan A sheet old form l), some);
   takes = taken_as lay plan A sheet old form l;
   refuses = refused_as lay plan A sheet old form l;
@@ -167,6 +167,6 @@ reports plan e B =
       least = λ i j t top left height width h.
           report-least (code_of plan) top left height width e h i j (on.rows i j t) (on.columns i j t) t;
       pattern = λ i j li lj. report-bit (code_of plan) e i j li lj;
-      pattern-below = report-below (code_of plan) e;
+      pattern_below = report-below (code_of plan) e;
       none = λ h. report-none (code_of plan) e (λ i j li lj. h i j);
     }

@@ -87,7 +87,7 @@ restores plan scan bits z =
     let A = r.0.lengths.accepted in
     let w = (mendable-iff (code_of plan) A.formed (cells_in ByRow plan scan)).0 r.1 in
     let e = w.0 in
-    let o = taken_as ByRow plan A scan bits r.0.form r.0.lengths.bits-size e w.1 (cells_fit ByRow plan scan e w.2) in
+    let o = taken_as ByRow plan A scan bits r.0.form r.0.lengths.bits_size e w.1 (cells_fit ByRow plan scan e w.2) in
     rw o
     (put-turns plan (corrupted plan scan e) e ((plan-test plan).1 A) (corrupted-form ByRow plan scan e) w.1
     ∙ ap (left_back accepted) (corrupted-back ByRow plan scan e r.0.form))

@@ -44,7 +44,7 @@ module _ (lay : Layout) (plan : List ℕ) (A : Accepted plan) (sheet old : List 
   checks : read_checks lay plan sheet old ≡ accepted
   checks =
       let size = in_size lay (code_of plan).n1 (code_of plan).n2 sheet form in
-      reads-pass lay plan sheet old (record { lengths = record { accepted = A; sheet-size = size; bits-size = l }; form = form })
+      reads-pass lay plan sheet old (record { lengths = record { accepted = A; sheet_len = size; bits_size = l }; form = form })
 
   pub reads-mended : mendable c s ≡ true → read_in lay plan sheet old ≡ taken lay c sheet
   unfolding read_in read_verdict ◌or_else◌ burst_in mendable

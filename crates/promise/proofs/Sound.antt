@@ -61,30 +61,30 @@ module _ (plan : List ℕ) (F : Formed (code_of plan)) (a : ℕ) where
         let K = carried in
         let on = burst-on c e (within-burst c F a T.within T.sparse) in
         record {
-          height-within = T.within.height-most;
-          width-within = T.within.width-most;
+          height_within = T.within.height_most;
+          width_within = T.within.width_most;
           rows_on = T.within.rows_on;
-          columns-on = T.within.columns-on;
+          columns_on = T.within.columns_on;
           smallest = λ i j t top left height width h.
               subst (λ (r : Report). LiesIn r top left height width) (sym told-report)
               (report-least c top left height width e h i j (on.rows i j t) (on.columns i j t) t);
-          none-beyond = rw (K.pattern, K.height, K.width) (report-below c e);
+          none_beyond = rw (K.pattern, K.height, K.width) (report-below c e);
           count = counted;
-          few-cells = λ l. omega (arith, counted, few-most c.t (cell_count c.n1 c.n2 e) l (few-told c a T.sparse));
-          none-zero = λ h. sym T.same ∙ answer-none c e (λ i j li lj. h i j);
+          few_cells = λ l. omega (arith, counted, few-most c.t (cell_count c.n1 c.n2 e) l (few-told c a T.sparse));
+          none_zero = λ h. sym T.same ∙ answer-none c e (λ i j li lj. h i j);
           success = K.number;
-          spare-zero = K.below;
+          spare_zero = K.below;
         }
 
   -- ---- and the other way round
 
   module _ (S : Sound plan a) where
     within : Within c a
-    within = record { height-most = S.height-within; width-most = S.width-within; rows_on = S.rows_on; columns-on = S.columns-on }
+    within = record { height_most = S.height_within; width_most = S.width_within; rows_on = S.rows_on; columns_on = S.columns_on }
 
     sparse : crowded c a ≡ false
     unfolding crowded
-    sparse = ap not (few-when c.t (cell_count c.n1 c.n2 e) (λ l. omega (arith, S.count, S.few-cells l)))
+    sparse = ap not (few-when c.t (cell_count c.n1 c.n2 e) (λ l. omega (arith, S.count, S.few_cells l)))
 
     on : OnSheet c e
     on = burst-on c e (within-burst c F a within sparse)
@@ -129,7 +129,7 @@ module _ (plan : List ℕ) (F : Formed (code_of plan)) (a : ℕ) where
 
       pattern-same : pattern_in a ≡ r.pattern
       pattern-same =
-          bits-equal (height_in a * width_in a) (pattern_in a) r.pattern S.none-beyond (rw (height-same, width_same) (report-below c e)) digit-same
+          bits-equal (height_in a * width_in a) (pattern_in a) r.pattern S.none_beyond (rw (height-same, width_same) (report-below c e)) digit-same
 
       fields-same : fields_in a ≡ report_fields accepted (report_as r)
       unfolding p_in q_in
@@ -150,7 +150,7 @@ module _ (plan : List ℕ) (F : Formed (code_of plan)) (a : ℕ) where
 
       some_same : burst_answer c e ≡ a
       unfolding burst_answer
-      some_same = ap packed (sym fields-same) ∙ packed-back a S.success S.spare-zero
+      some_same = ap packed (sym fields-same) ∙ packed-back a S.success S.spare_zero
 
     same : burst_answer c e ≡ a
     unfolding row_touched
@@ -165,7 +165,7 @@ module _ (plan : List ℕ) (F : Formed (code_of plan)) (a : ℕ) where
             let none : (i j : ℕ) → e i j ≡ false =
             (λ i j. not-true (e i j) (λ u.
             clash (any_here c.n2 (e i) j (on.columns i j u) u) (any_none c.n1 (row_touched c e) t i (on.rows i j u)))) in
-            answer-none c e (λ i j li lj. none i j) ∙ sym (S.none-zero none)
+            answer-none c e (λ i j li lj. none i j) ∙ sym (S.none_zero none)
 
     pub sound-told : Told c a
     sound-told = record { within = within; sparse = sparse; same = same }

@@ -64,8 +64,8 @@ stack-takes plan l = (rules, λ r. taken r.0 r.1)
             rooms = F.whole.rooms;
             offsets = F.whole.offsets;
             ends = F.whole.long;
-            numbers-size = F.numbers-size;
-            bits-size = F.bits-size;
+            numbers_len = F.numbers_len;
+            bits_size = F.bits_size;
           },
         )
 
@@ -74,8 +74,8 @@ stack-takes plan l = (rules, λ r. taken r.0 r.1)
         let F : StackFits plan l.stack l.numbers l.bits = record {
           accepted = accepted-plan plan P;
           whole = record { counted = R.counted; most = R.most; long = R.ends; rooms = R.rooms; offsets = R.offsets };
-          numbers-size = R.numbers-size;
-          bits-size = R.bits-size;
+          numbers_len = R.numbers_len;
+          bits_size = R.bits_size;
         } in
         told-zero plan l (ap (λ (v : Verdict). v.number) (stacks-pass plan l.stack l.numbers l.bits F))
 
@@ -83,10 +83,10 @@ pub stack-order : promise.StackOrder
 stack-order plan l =
     let t = told-as plan l.stack l.numbers l.bits in
     record {
-      plan-first = λ h. t ∙ told-plan plan l.stack l.numbers l.bits h;
-      form-next = λ e b. t ∙ told-form plan l.stack l.numbers l.bits e b;
-      numbers-next = λ e b h. t ∙ told-numbers plan l.stack l.numbers l.bits e b h;
-      bits-last = λ e b k h. t ∙ told-bits plan l.stack l.numbers l.bits e b k h;
+      plan_first = λ h. t ∙ told-plan plan l.stack l.numbers l.bits h;
+      form_next = λ e b. t ∙ told-form plan l.stack l.numbers l.bits e b;
+      numbers_next = λ e b h. t ∙ told-numbers plan l.stack l.numbers l.bits e b h;
+      bits_last = λ e b k h. t ∙ told-bits plan l.stack l.numbers l.bits e b k h;
     }
 
 pub stack-refused : promise.StackRefused
@@ -112,14 +112,14 @@ as-alone plan l e i li = record {
 told-small : (o : Outcome) → SmallVerdict o.verdict → ReportFits o.report → OneOf o.verdict.number → Tells (number_bytes o) o
 told-small o S R w = record {
   number = at-number o (omega (arith, S.number_fits));
-  p = at_p o (omega (arith, S.p-fits));
-  q = at-q o (omega (arith, S.q-fits));
-  cells = at_cells o (omega (arith, R.cells-fits));
-  top = at_top o (omega (arith, R.top-fits));
-  left = at_left o (omega (arith, R.left-fits));
-  height = at-height o (omega (arith, R.height-fits));
+  p = at_p o (omega (arith, S.p_fits));
+  q = at-q o (omega (arith, S.q_fits));
+  cells = at_cells o (omega (arith, R.cells_fits));
+  top = at_top o (omega (arith, R.top_fits));
+  left = at_left o (omega (arith, R.left_fits));
+  height = at-height o (omega (arith, R.height_fits));
   width = at_width o (omega (arith, R.width_fits));
-  pattern = at-pattern o R.pattern-fits;
+  pattern = at-pattern o R.pattern_fits;
   which = w;
 }
 
@@ -192,7 +192,7 @@ back_alone plan l z i li bits e right B s =
     let place = bits_at (code_of plan) l.bits i in
     ap (λ (x : List ℕ). read_outcome plan x place) s
     ∙ read_back ByRow plan (passes plan l z) bits place e right B
-    (alone-lengths plan l.stack l.numbers l.bits (fits plan l z) i li).bits-size
+    (alone-lengths plan l.stack l.numbers l.bits (fits plan l z) i li).bits_size
 
 pub stack-back : promise.StackBack
 stack-back plan l z i li bits e right B s =

@@ -87,6 +87,6 @@ whole-sheet plan sheet old P S R =
 pub belongs-by-sums : promise.BelongsBySums
 belongs-by-sums plan sheet old P S R =
     let W = whole-sheet plan sheet old P S R in (
-      λ B. by W B.row_zero B.column-zero,
-      λ G. record { row_zero = sym W.row ∙ G.row; column-zero = sym W.column ∙ G.column },
+      λ B. by W B.row_zero B.column_zero,
+      λ G. record { row_zero = sym W.row ∙ G.row; column_zero = sym W.column ∙ G.column },
     )

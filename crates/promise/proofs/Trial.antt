@@ -113,6 +113,6 @@ pub trial-ends : promise.TrialEnds
 trial-ends lay plan ok sheet old form l =
     let A = accepted-plan plan ok in
     let R = answers lay plan ok sheet old form l in (
-      λ n t below f. R.none-fits.0 n (trial_cells (code_of plan) t) f.0 f.1,
-      λ none. R.none-fits.1 (λ e B f. let w = some-trial lay plan A sheet (e, B, f) in none w.0 w.1 w.2),
+      λ n t below f. R.none_fits.0 n (trial_cells (code_of plan) t) f.0 f.1,
+      λ none. R.none_fits.1 (λ e B f. let w = some-trial lay plan A sheet (e, B, f) in none w.0 w.1 w.2),
     )

@@ -52,7 +52,7 @@ agree-data plan s s' = agree-equal (data_in plan s) (data_in plan s') ((data-for
 module _ (plan : List ℕ) (A : Accepted plan) (first second old : List ℕ) (f : SheetFor plan first) (g : SheetFor plan second) (l : BufferFor plan old) where
   decided : read_two plan first second old ≡ decide (read_outcome plan first old) (read_outcome plan second old) old
   unfolding read_two
-  decided = rw (twos-pass plan first second old (record { both = record { accepted = A; first-form = f; second-form = g }; bits-size = l }))
+  decided = rw (twos-pass plan first second old (record { both = record { accepted = A; first_form = f; second_form = g }; bits_size = l }))
 
   -- the reads of the two scans, and what they decide
   both : {a b : Outcome} {o : TwoRead} → read_outcome plan first old ≡ a → read_outcome plan second old ≡ b → o ≡ decide a b old
@@ -149,11 +149,11 @@ two-answers plan ok first second old f g l =
     record {
       agree = when-agree plan A first second old f g l;
       first_alone = when-first plan A first second old f g l;
-      second-alone = when-second plan A first second old f g l;
+      second_alone = when-second plan A first second old f g l;
       neither = when-neither plan A first second old f g l;
       differ = when-differ plan A first second old f g l;
-      only-neither = neither-only plan A first second old f g l n n';
-      only-differ = differ-only plan A first second old f g l n n';
+      only_neither = neither-only plan A first second old f g l n n';
+      only_differ = differ-only plan A first second old f g l n n';
     }
 
 -- ---- two scans of one written sheet
@@ -182,7 +182,7 @@ two_back plan ok bits old e e' right B B' l =
 pub no-data-agrees : promise.NoDataAgrees
 unfolding held_in
 no-data-agrees plan ok first second old f g l z e =
-    let w = (two-answers plan ok first second old f g l).only-differ e in
+    let w = (two-answers plan ok first second old f g l).only_differ e in
     w.4
     (bytes-equal 1 (data_size (code_of plan)) (λ i d. data_of (code_of plan) (cells_of plan w.0) d) (λ i d. data_of (code_of plan) (cells_of plan w.1) d)
     (λ i d li ld. absurd (omega arith)))

@@ -41,7 +41,7 @@ pub record HandsRow (plan first second : List ℕ) (r : ℕ) : Type 0 where
       → get_or (handed_back plan first second) k 0 ≡ get_or second (r * row_bytes (code_of plan).n2 + k) 0
 
 pub record FirstRow (plan first second : List ℕ) (r : ℕ) : Type 0 where
-  pub on-sheet : r < (code_of plan).n1
+  pub on_sheet : r < (code_of plan).n1
   pub before : (i j : ℕ) → i < r → j < (code_of plan).n2 → SameCell plan first second i j
   pub here : (j : ℕ) × (j < (code_of plan).n2) × (SameCell plan first second r j → ⊥)
   pub hands : HandsRow plan first second r

@@ -162,7 +162,7 @@ ReadClean = (lay : Layout) (plan : List ℕ) → Passes plan → (bits old : Lis
 -- 3. what is answered to a sheet of the right form
 pub record Answered (lay : Layout) (plan sheet old : List ℕ) : Type 0 where
   pub number : ((read_in lay plan sheet old).verdict.number ≡ 0) ⊎ ((read_in lay plan sheet old).verdict.number ≡ 14)
-  pub none-fits : ((read_in lay plan sheet old).verdict.number ≡ 14) ↔ NoneIn lay plan sheet
+  pub none_fits : ((read_in lay plan sheet old).verdict.number ≡ 14) ↔ NoneIn lay plan sheet
   pub some_fits : ((read_in lay plan sheet old).verdict.number ≡ 0) ↔ SomeIn lay plan sheet
   -- the burst that fits mends the sheet to one that belongs; this sheet, its data and the burst's report are given
   pub takes : (e : Cells) → BurstOn plan e → FitsIn lay plan sheet e
@@ -186,7 +186,7 @@ pub record Reported (plan : List ℕ) (e : Cells) (r : Report) : Type 0 where
   pub least : (i j : ℕ) → e i j ≡ true → (top left height width : ℕ) → Inside top left height width e → LiesIn r top left height width
   -- 02, request k: "the cell at row r and column s of the smallest rectangle has bit r × width + s", and there is no bit beyond
   pub pattern : (i j : ℕ) → i < r.height → j < r.width → bit r.pattern (i * r.width + j) ≡ e (r.top + i) (r.left + j)
-  pub pattern-below : r.pattern < 2 ^ (r.height * r.width)
+  pub pattern_below : r.pattern < 2 ^ (r.height * r.width)
   pub none : ((i j : ℕ) → e i j ≡ false) → r ≡ no_report
 
 abbrev pub Reports : Type 0
@@ -196,8 +196,8 @@ pub record Turned (lay : Layout) (plan sheet : List ℕ) : Type 0 where
   pub form : (e : Cells) → SheetIn lay plan (corrupted_in lay plan sheet e)
   pub cell : (e : Cells) (i j : ℕ) → i < (code_of plan).n1 → j < (code_of plan).n2
       → cells_in lay plan (corrupted_in lay plan sheet e) i j ≡ xor (cells_in lay plan sheet i j) (e i j)
-  pub empty-burst : BurstOn plan empty
-  pub empty-turns : SheetIn lay plan sheet → corrupted_in lay plan sheet empty ≡ sheet
+  pub empty_burst : BurstOn plan empty
+  pub empty_turns : SheetIn lay plan sheet → corrupted_in lay plan sheet empty ≡ sheet
 
 abbrev pub Turns : Type 0
 Turns = (lay : Layout) (plan : List ℕ) → Passes plan → (sheet : List ℕ) → Turned lay plan sheet

@@ -73,19 +73,19 @@ PutTakes = (plan sheet : List ℕ) (a : ℕ) → Passes plan → SheetFor plan s
 -- cell count, a none answer is not all zeros, the answer is a refusal, or any other bit of it is not 0"; and 02 m: "more than t cells, with t not 0": none
 -- of these is true
 pub record Sound (plan : List ℕ) (a : ℕ) : Type 0 where
-  pub height-within : height_in a ≤ (code_of plan).b1
-  pub width-within : width_in a ≤ (code_of plan).b2
+  pub height_within : height_in a ≤ (code_of plan).b1
+  pub width_within : width_in a ≤ (code_of plan).b2
   pub rows_on : top_in a + height_in a ≤ (code_of plan).n1
-  pub columns-on : left_in a + width_in a ≤ (code_of plan).n2
+  pub columns_on : left_in a + width_in a ≤ (code_of plan).n2
   -- for a pattern that has a cell (i, j)
   pub smallest : (i j : ℕ) → cells_told a i j ≡ true → (top left height width : ℕ) → Inside top left height width (cells_told a)
       → LiesIn (report_told a) top left height width
-  pub none-beyond : pattern_in a < 2 ^ (height_in a * width_in a)
+  pub none_beyond : pattern_in a < 2 ^ (height_in a * width_in a)
   pub count : cells_in a ≡ cell_count (code_of plan).n1 (code_of plan).n2 (cells_told a)
-  pub few-cells : 1 ≤ (code_of plan).t → cells_in a ≤ (code_of plan).t
-  pub none-zero : ((i j : ℕ) → cells_told a i j ≡ false) → a ≡ 0
+  pub few_cells : 1 ≤ (code_of plan).t → cells_in a ≤ (code_of plan).t
+  pub none_zero : ((i j : ℕ) → cells_told a i j ≡ false) → a ≡ 0
   pub success : number_in a ≡ 0
-  pub spare-zero : a < 2 ^ 51
+  pub spare_zero : a < 2 ^ 51
 
 abbrev pub PutReasons : Type 0
 PutReasons = (plan sheet : List ℕ) (a : ℕ) → Passes plan → SheetFor plan sheet → ((put_back plan sheet a).verdict.number ≡ 0) ↔ Sound plan a

@@ -49,8 +49,8 @@ pub record StackRules (plan : List ℕ) (l : Lent) : Type 0 where
   -- the sheets follow the header in its order without gaps, and the stack ends after the last
   pub offsets : (i : ℕ) → i < sheet_count l.stack → offset_of l.stack i ≡ sheet_place (sheet_size (code_of plan)) (sheet_count l.stack) i
   pub ends : length l.stack ≡ sheet_place (sheet_size (code_of plan)) (sheet_count l.stack) (sheet_count l.stack)
-  pub numbers-size : length l.numbers ≡ sheet_count l.stack * numbers_size
-  pub bits-size : length l.bits ≡ sheet_count l.stack * data_bytes (code_of plan)
+  pub numbers_len : length l.numbers ≡ sheet_count l.stack * numbers_size
+  pub bits_size : length l.bits ≡ sheet_count l.stack * data_bytes (code_of plan)
 
 -- its read alone
 abbrev pub alone : List ℕ → Lent → ℕ → Outcome
@@ -86,11 +86,11 @@ StackTakes = (plan : List ℕ) (l : Lent) → (told_of plan l ≡ 0) ↔ (Passes
 
 -- 02, request h: "20, after 10: the header or stack length breaks these rules. 21, next: the answer buffer has another length. Then 12"
 pub record StackTold (plan : List ℕ) (l : Lent) (v : Verdict) : Type 0 where
-  pub plan-first : (Passes plan → ⊥) → v ≡ plan_verdict plan
-  pub form-next : Passes plan → stack_broken (sheet_size (code_of plan)) l.stack ≡ true → v ≡ refusal 20 0 0
-  pub numbers-next : Passes plan → stack_broken (sheet_size (code_of plan)) l.stack ≡ false
+  pub plan_first : (Passes plan → ⊥) → v ≡ plan_verdict plan
+  pub form_next : Passes plan → stack_broken (sheet_size (code_of plan)) l.stack ≡ true → v ≡ refusal 20 0 0
+  pub numbers_next : Passes plan → stack_broken (sheet_size (code_of plan)) l.stack ≡ false
       → (length l.numbers ≡ sheet_count l.stack * numbers_size → ⊥) → v ≡ refusal 21 0 0
-  pub bits-last : Passes plan → stack_broken (sheet_size (code_of plan)) l.stack ≡ false → length l.numbers ≡ sheet_count l.stack * numbers_size
+  pub bits_last : Passes plan → stack_broken (sheet_size (code_of plan)) l.stack ≡ false → length l.numbers ≡ sheet_count l.stack * numbers_size
       → (length l.bits ≡ sheet_count l.stack * data_bytes (code_of plan) → ⊥) → v ≡ refusal 12 0 0
 
 abbrev pub StackOrder : Type 0

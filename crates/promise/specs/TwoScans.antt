@@ -49,13 +49,13 @@ pub record TwoAnswered (plan first second old : List ℕ) : Type 0 where
   pub agree : (s s' : List ℕ) → MendsTo plan first s → MendsTo plan second s' → data_in plan s ≡ data_in plan s'
       → read_two plan first second old ≡ two_read accepted (data_in plan s)
   pub first_alone : (s : List ℕ) → MendsTo plan first s → NoneFits plan second → read_two plan first second old ≡ two_read accepted (data_in plan s)
-  pub second-alone : (s' : List ℕ) → NoneFits plan first → MendsTo plan second s' → read_two plan first second old ≡ two_read accepted (data_in plan s')
+  pub second_alone : (s' : List ℕ) → NoneFits plan first → MendsTo plan second s' → read_two plan first second old ≡ two_read accepted (data_in plan s')
   pub neither : NoneFits plan first → NoneFits plan second → read_two plan first second old ≡ two_read (refusal 14 0 0) old
   pub differ : (s s' : List ℕ) → MendsTo plan first s → MendsTo plan second s' → (data_in plan s ≡ data_in plan s' → ⊥)
       → read_two plan first second old ≡ two_read (refusal 19 0 0) old
   -- and these numbers are told there alone
-  pub only-neither : told plan first second old ≡ 14 → NoneFits plan first × NoneFits plan second
-  pub only-differ : told plan first second old ≡ 19
+  pub only_neither : told plan first second old ≡ 14 → NoneFits plan first × NoneFits plan second
+  pub only_differ : told plan first second old ≡ 19
       → (s : List ℕ) × (s' : List ℕ) × MendsTo plan first s × MendsTo plan second s' × (data_in plan s ≡ data_in plan s' → ⊥)
 
 abbrev pub TwoAnswers : Type 0

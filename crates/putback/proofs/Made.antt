@@ -75,11 +75,11 @@ module _ (c : Code) (F : Formed c) (a : ℕ) (within : (exceeds c a || leaves c 
     pub report-needs : {r : Answer} → Taken a r → BurstSize r.height r.width × ((r.top ≤ 512) × (r.left ≤ 698))
     report-needs T =
         let W = inner in
-        rw (T.top, T.left, T.height, T.width) (made-size, (omega (arith, W.rows_on, F.n1-most), omega (arith, W.columns-on, F.n2-most)))
+        rw (T.top, T.left, T.height, T.width) (made-size, (omega (arith, W.rows_on, F.n1_most), omega (arith, W.columns_on, F.n2_most)))
 
     told-report : report_of c (cells_told a) ≡ box_report (top_in a) (left_in a) (height_in a) (width_in a) (pattern_in a)
     unfolding cells_told
-    told-report = box-report c (top_in a) (left_in a) (height_in a) (width_in a) (pattern_in a) made-size.b2-pos inner.rows_on inner.columns-on
+    told-report = box-report c (top_in a) (left_in a) (height_in a) (width_in a) (pattern_in a) made-size.b2_pos inner.rows_on inner.columns_on
 
     -- a report that was worked out
     module _ {f : Answer} (T : Taken a f) {r : Report}

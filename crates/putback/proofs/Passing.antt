@@ -70,7 +70,7 @@ module _ (c : Code) (s : List ℕ) (f : RightForm c.n1 c.n2 s) where
   -- the fields of the answer of a burst that has cells
   module _ (F : Formed c) (a : ℕ) (B : Told c a) (h : a ≡ 0 → ⊥) {r : Answer} (T : Taken a r) where
     told-on : Rectangle c.n1 c.n2 (top_in a) (left_in a) (height_in a) (width_in a)
-    told-on = record { n1-most = F.n1-most; n2-most = F.n2-most; rows_on = B.within.rows_on; columns-on = B.within.columns-on }
+    told-on = record { n1_most = F.n1_most; n2_most = F.n2_most; rows_on = B.within.rows_on; columns_on = B.within.columns_on }
 
     pub turn-needs : BurstSize r.height r.width × Rectangle c.n1 c.n2 r.top r.left r.height r.width
     turn-needs = rw (T.top, T.left, T.height, T.width) (told-size c F a B h, told-on)
@@ -79,4 +79,4 @@ module _ (c : Code) (s : List ℕ) (f : RightForm c.n1 c.n2 s) where
     unfolding back_bytes cells_told
     back-turned e =
         (rw (T.top, T.left, T.height, T.width, T.pattern) at e)
-        ∙ box-turned (top_in a) (left_in a) (height_in a) (width_in a) (pattern_in a) (told-size c F a B h).b2-pos ByRow c.n1 c.n2 s f told-on
+        ∙ box-turned (top_in a) (left_in a) (height_in a) (width_in a) (pattern_in a) (told-size c F a B h).b2_pos ByRow c.n1 c.n2 s f told-on

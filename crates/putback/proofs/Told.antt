@@ -38,10 +38,10 @@ use Rattle.packing.proofs.Packed.{answer-carries, answer-none}
 use Rattle.putback.specs.PutBack.{cells_told, exceeds, leaves, crowded, no_burst}
 
 pub record Within (c : Code) (a : ℕ) : Type 0 where
-  pub height-most : height_in a ≤ c.b1
-  pub width-most : width_in a ≤ c.b2
+  pub height_most : height_in a ≤ c.b1
+  pub width_most : width_in a ≤ c.b2
   pub rows_on : top_in a + height_in a ≤ c.n1
-  pub columns-on : left_in a + width_in a ≤ c.n2
+  pub columns_on : left_in a + width_in a ≤ c.n2
 
 -- ---- the cells
 
@@ -63,19 +63,19 @@ few-told c a f = tests.not-false _ f
 
 pub within-burst : (c : Code) → Formed c → (a : ℕ) → Within c a → crowded c a ≡ false → Burst c (cells_told a)
 within-burst c F a W f =
-    let r = corner (top_in a) (height_in a) c.b1 c.n1 W.height-most F.n1-least W.rows_on in
-    let k = corner (left_in a) (width_in a) c.b2 c.n2 W.width-most F.n2-least W.columns-on in
+    let r = corner (top_in a) (height_in a) c.b1 c.n1 W.height_most F.n1_least W.rows_on in
+    let k = corner (left_in a) (width_in a) c.b2 c.n2 W.width_most F.n2_least W.columns_on in
     let on = told-inside a in
     record {
       top = r.0;
       left = k.0;
       rows_on = r.2;
-      columns-on = k.2;
+      columns_on = k.2;
       inside = record {
         row_from = λ i j t. omega (arith, r.1, on.row_from i j t);
-        row-to = λ i j t. omega (arith, r.3, on.row-to i j t);
-        column-from = λ i j t. omega (arith, k.1, on.column-from i j t);
-        column-to = λ i j t. omega (arith, k.3, on.column-to i j t);
+        row_to = λ i j t. omega (arith, r.3, on.row_to i j t);
+        column_from = λ i j t. omega (arith, k.1, on.column_from i j t);
+        column_to = λ i j t. omega (arith, k.3, on.column_to i j t);
       };
       sparse = few-told c a f;
     }
@@ -87,8 +87,8 @@ no_cells a z i j = not-true (cells_told a i j) (λ t. go (told-inside a) t z)
     go : Inside (top_in a) (left_in a) (height_in a) (width_in a) (cells_told a) → cells_told a i j ≡ true
         → (eqb (height_in a) 0 || eqb (width_in a) 0) ≡ true → ⊥
     go on t z =
-        let h : height_in a ≡ 0 → ⊥ = λ e. omega (arith, on.row_from i j t, on.row-to i j t) in
-        let w : width_in a ≡ 0 → ⊥ = λ e. omega (arith, on.column-from i j t, on.column-to i j t) in
+        let h : height_in a ≡ 0 → ⊥ = λ e. omega (arith, on.row_from i j t, on.row_to i j t) in
+        let w : width_in a ≡ 0 → ⊥ = λ e. omega (arith, on.column_from i j t, on.column_to i j t) in
         clash z (ap₂ ◌||◌ (tests.ne_eqb (height_in a) 0 h) (tests.ne_eqb (width_in a) 0 w))
 
 pub no-crowd : (c : Code) (a : ℕ) → (eqb (height_in a) 0 || eqb (width_in a) 0) ≡ true → crowded c a ≡ false
@@ -106,10 +106,10 @@ told-within c a e l =
     let p = or-false (ltb c.b1 (height_in a)) (ltb c.b2 (width_in a)) e in
     let q = or-false (ltb c.n1 (top_in a + height_in a)) (ltb c.n2 (left_in a + width_in a)) l in
     record {
-      height-most = ltb-false c.b1 (height_in a) p.0;
-      width-most = ltb-false c.b2 (width_in a) p.1;
+      height_most = ltb-false c.b1 (height_in a) p.0;
+      width_most = ltb-false c.b2 (width_in a) p.1;
       rows_on = ltb-false c.n1 (top_in a + height_in a) q.0;
-      columns-on = ltb-false c.n2 (left_in a + width_in a) q.1;
+      columns_on = ltb-false c.n2 (left_in a + width_in a) q.1;
     }
 
 pub no-outside : (c : Code) (a : ℕ) → (exceeds c a || leaves c a) ≡ true → true ≡ no_burst c a
@@ -161,10 +161,10 @@ module _ (c : Code) (F : Formed c) (e : Cells) (B : Burst c e) where
         K.left,
         K.height,
         K.width,
-        le-ltb c.b1 (report_of c e).height s.height-most,
-        le-ltb c.b2 (report_of c e).width s.width-most,
+        le-ltb c.b1 (report_of c e).height s.height_most,
+        le-ltb c.b2 (report_of c e).width s.width_most,
         le-ltb c.n1 ((report_of c e).top + (report_of c e).height) s.rows_on,
-        le-ltb c.n2 ((report_of c e).left + (report_of c e).width) s.columns-on,
+        le-ltb c.n2 ((report_of c e).left + (report_of c e).width) s.columns_on,
         told-few,
         eq-eqb (burst_answer c (cells_told (burst_answer c e))) (burst_answer c e) again,
       )
@@ -193,10 +193,10 @@ wide-size c F a W z =
     let m : height_in a ≡ 0 → ⊥ = tests.eqb-false (height_in a) 0 p.0 in
     let n : width_in a ≡ 0 → ⊥ = tests.eqb-false (width_in a) 0 p.1 in
     record {
-      b1-pos = omega arith;
-      b1-most = omega (arith, W.height-most, F.b1-most);
-      b2-pos = omega arith;
-      b2-most = omega (arith, W.width-most, F.b2-most);
+      b1_pos = omega arith;
+      b1_most = omega (arith, W.height_most, F.b1_most);
+      b2_pos = omega arith;
+      b2_most = omega (arith, W.width_most, F.b2_most);
     }
 
 pub told-size : (c : Code) → Formed c → (a : ℕ) → Told c a → (a ≡ 0 → ⊥) → BurstSize (height_in a) (width_in a)

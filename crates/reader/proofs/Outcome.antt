@@ -82,7 +82,7 @@ module _ (lay : Layout) (plan sheet bits : List ℕ) where
     unfolding code_of
     lengths = subst (λ (g : Header). AcceptedWith plan g
         → length sheet ≡ size_in lay g.n1 g.n2 → length bits ≡ row_bytes (data_size (code_with plan g)) → Lengths lay plan sheet bits)
-        (sym A.framed.is) (λ B u v. record { accepted = B; sheet-size = u; bits-size = v }) A m k
+        (sym A.framed.is) (λ B u v. record { accepted = B; sheet_len = u; bits_size = v }) A m k
 
     after-lengths : read_checks lay plan sheet bits ≡ unused_verdict lay h.n1 h.n2 sheet
     unfolding read_checks
@@ -127,12 +127,12 @@ burst-bits lay c F s t e =
 module _ (lay : Layout) (c : Code) (F : Formed c) (s : List ℕ) (f : FormIn lay c.n1 c.n2 s) (top left x : ℕ)
     (b : IsBurst c (row_syndrome c (cell_in lay c.n1 c.n2 s)) (column_syndrome c (cell_in lay c.n1 c.n2 s)) top left x) where
   pub burst-on : Rectangle c.n1 c.n2 top left c.b1 c.b2
-  burst-on = record { n1-most = F.n1-most; n2-most = F.n2-most; rows_on = b.rows_on; columns-on = b.columns-on }
+  burst-on = record { n1_most = F.n1_most; n2_most = F.n2_most; rows_on = b.rows_on; columns_on = b.columns_on }
 
   pub burst-sheet : box_turned lay c.n1 c.n2 s top left c.b1 c.b2 x ≡ sheet_read lay c s
   unfolding sheet_read mended change
   burst-sheet =
-      box-turned top left c.b1 c.b2 x F.b2-pos lay c.n1 c.n2 s f burst-on
+      box-turned top left c.b1 c.b2 x F.b2_pos lay c.n1 c.n2 s f burst-on
       ∙ in-equal lay c.n1 c.n2 (flip (cell_in lay c.n1 c.n2 s) (box_cells top left c.b1 c.b2 x)) (mended c (cell_in lay c.n1 c.n2 s))
       (λ i j li lj. ap (xor (cell_in lay c.n1 c.n2 s i j)) (b.cells i j))
 
@@ -169,9 +169,9 @@ module _ (c : Code) (F : Formed c) (s : List ℕ) (f : RightForm c.n1 c.n2 s) (t
       h
       ∙ ap (bit_turned_if (bit x k) c (top + k / c.b2) (left + k % c.b2)) e
       ∙ sym
-      (held-turned-if c F (top + k / c.b2) (left + k % c.b2) (digit-row c.n1 c.n2 top left c.b1 c.b2 F.b2-pos R k l)
-      (digit-column c.n1 c.n2 top left c.b1 c.b2 F.b2-pos R k) (bit x k) (digits_turned ByRow c.n1 c.n2 s top left c.b2 x k)
-      (digits-form top left c.b1 c.b2 x F.b2-pos ByRow c.n1 c.n2 s f R k (omega arith)))
+      (held-turned-if c F (top + k / c.b2) (left + k % c.b2) (digit-row c.n1 c.n2 top left c.b1 c.b2 F.b2_pos R k l)
+      (digit-column c.n1 c.n2 top left c.b1 c.b2 F.b2_pos R k) (bit x k) (digits_turned ByRow c.n1 c.n2 s top left c.b2 x k)
+      (digits-form top left c.b1 c.b2 x F.b2_pos ByRow c.n1 c.n2 s f R k (omega arith)))
       ∙ ap data_after (sym (add-one k))
 
   pub data-all : data_after (c.b1 * c.b2) ≡ bits_read ByRow c s

@@ -44,7 +44,7 @@ module _ (n1 n2 top left b1 b2 : ℕ) (pos : 1 ≤ b2) (R : Rectangle n1 n2 top 
   digit-row k l = let q : k / b2 < b1 = (div-lt_iff_lt-mul pos).1 l in let r = R.rows_on in omega arith
 
   pub digit-column : (k : ℕ) → left + k % b2 < n2
-  digit-column k = let q : k % b2 < b2 = mod-lt k pos in let r = R.columns-on in omega arith
+  digit-column k = let q : k % b2 < b2 = mod-lt k pos in let r = R.columns_on in omega arith
 
   pub digit-byte : (k : ℕ) → k < b1 * b2 → byte_of n2 (top + k / b2) (left + k % b2) < (top + b1) * row_bytes n2
   unfolding sheet_bytes
@@ -55,8 +55,8 @@ module _ (n1 n2 top left b1 b2 : ℕ) (pos : 1 ≤ b2) (R : Rectangle n1 n2 top 
   pub rows-most : (a w : ℕ) → w ≡ row_bytes n2 → a ≤ top + b1 → a * w ≤ 45056
   unfolding row_bytes
   rows-most a w e l =
-      let p : a ≤ 512 = omega (arith, R.rows_on, R.n1-most) in
-      let q : w ≤ 88 = omega (arith, R.n2-most) in
+      let p : a ≤ 512 = omega (arith, R.rows_on, R.n1_most) in
+      let q : w ≤ 88 = omega (arith, R.n2_most) in
       mul-le-mul p q
 
 -- ---- the number of bytes, and one turn of the loop
@@ -191,8 +191,8 @@ module _ (top left b1 b2 x : ℕ) (pos : 1 ≤ b2) where
         go (is_true t) =
             let n = box-inside top left b1 b2 x in
             let rf : top ≤ a = n.row_from a d t in
-            let cf : left ≤ d = n.column-from a d t in
-            let ct : d < left + b2 = n.column-to a d t in
+            let cf : left ≤ d = n.column_from a d t in
+            let ct : d < left + b2 = n.column_to a d t in
             let lr : d - left < b2 = omega arith in
             let qr : digit_of top left b2 a d / b2 ≡ a - top = digits_div (a - top) lr in
             let qc : digit_of top left b2 a d % b2 ≡ d - left = digits_mod (a - top) lr in
@@ -235,9 +235,9 @@ module _ (top left b1 b2 x : ℕ) (pos : 1 ≤ b2) where
       go (is_true t) =
           let n = box-inside top left b1 b2 x in
           let rf : top ≤ a = n.row_from a d t in
-          let rt : a < top + b1 = n.row-to a d t in
-          let cf : left ≤ d = n.column-from a d t in
-          let ct : d < left + b2 = n.column-to a d t in
+          let rt : a < top + b1 = n.row_to a d t in
+          let cf : left ≤ d = n.column_from a d t in
+          let ct : d < left + b2 = n.column_to a d t in
           let lr : a - top < b1 = omega arith in
           let lc : d - left < b2 = omega arith in
           rw t (lt-ltb _ (b1 * b2) (digits_lt lr lc))

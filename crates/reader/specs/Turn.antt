@@ -11,10 +11,10 @@ use Rattle.layout.specs.Stored.{turned_in}
 use Rattle.layout.specs.declared.stored.Layout.{Layout}
 
 pub record Rectangle (n1 n2 top left b1 b2 : ℕ) : Type 0 where
-  pub n1-most : n1 ≤ 512
-  pub n2-most : n2 ≤ 698
+  pub n1_most : n1 ≤ 512
+  pub n2_most : n2 ≤ 698
   pub rows_on : top + b1 ≤ n1
-  pub columns-on : left + b2 ≤ n2
+  pub columns_on : left + b2 ≤ n2
 
 unfoldable pub digits_turned : Layout → (n1 n2 : ℕ) → List ℕ → (top left b2 x n : ℕ) → List ℕ
 digits_turned lay n1 n2 s top left b2 x zero = s

@@ -53,10 +53,10 @@ module _ (c : Code) (F : Formed c) (first past : ℕ) (sheet : List ℕ) where
 
   pub v-back : u32_at (run_bytes c first past sheet) 0 ≡ v
   unfolding run_bytes
-  v-back = u32-back [] (low_bytes 4 h) v (word c.rv v F.rv-most (row-in-below c (cell_of c.n2 sheet) F first past))
+  v-back = u32-back [] (low_bytes 4 h) v (word c.rv v F.rv_most (row-in-below c (cell_of c.n2 sheet) F first past))
 
   pub h-back : u32_at (run_bytes c first past sheet) 4 ≡ h
   unfolding run_bytes
   h-back =
       ap₂ u32_at (ap (λ (t : List ℕ). low_bytes 4 v ++ t) (sym (append-nil (low_bytes 4 h)))) (sym (low-length 4 v))
-      ∙ u32-back (low_bytes 4 v) [] h (word c.rh h F.rh-most (column-in-below c (cell_of c.n2 sheet) F first past))
+      ∙ u32-back (low_bytes 4 v) [] h (word c.rh h F.rh_most (column-in-below c (cell_of c.n2 sheet) F first past))

@@ -44,9 +44,9 @@ module _ (plan first second bits : List ℕ) where
       let M = two-zero plan first second bits e in
       let B = M.both in
       let one = passes (reads-pass ByRow plan first bits
-      (record { lengths = record { accepted = B.accepted; sheet-size = B.first-form.size; bits-size = M.bits-size }; form = B.first-form })) in
+      (record { lengths = record { accepted = B.accepted; sheet_len = B.first_form.size; bits_size = M.bits_size }; form = B.first_form })) in
       let other = passes (reads-pass ByRow plan second bits
-      (record { lengths = record { accepted = B.accepted; sheet-size = B.second-form.size; bits-size = M.bits-size }; form = B.second-form })) in
+      (record { lengths = record { accepted = B.accepted; sheet_len = B.second_form.size; bits_size = M.bits_size }; form = B.second_form })) in
       rw (eq-eqb (read_two_checks plan first second bits).number 0 e)
       (ap₂ (λ (a b : Outcome). decide a b bits) (read-mends ByRow plan first bits one) (read-mends ByRow plan second bits other))
 

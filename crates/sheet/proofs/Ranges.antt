@@ -72,7 +72,7 @@ use Rattle.sheet.specs.Calls.{verdict_fields, make_reply, make_call}
 
 -- a refusal with places 0, 0
 told-fits : (t : Bool) (n : ℕ) → n < 32 → SmallVerdict (verdict_if t (refusal n 0 0))
-told-fits t n l = if-fits t (refusal n 0 0) (λ _. record { number_fits = l; p-fits = omega arith; q-fits = omega arith; silent = λ _. (refl, refl) })
+told-fits t n l = if-fits t (refusal n 0 0) (λ _. record { number_fits = l; p_fits = omega arith; q_fits = omega arith; silent = λ _. (refl, refl) })
 
 length-fits : (n : ℕ) (s : List ℕ) (size : ℕ) → n < 32 → SmallVerdict (length_verdict n s size)
 unfolding length_verdict
@@ -82,7 +82,7 @@ unused-fits : (lay : Layout) (n1 n2 : ℕ) (s : List ℕ) → size_in lay n1 n2 
 unfolding unused_verdict
 unused-fits lay n1 n2 s u =
     at-fits (size_in lay n1 n2) (first_unused_in lay n1 n2 s) (refusal 13 (first_unused_in lay n1 n2 s) 0)
-    (λ l. record { number_fits = omega arith; p-fits = omega arith; q-fits = omega arith; silent = λ e. absurd (omega arith) })
+    (λ l. record { number_fits = omega arith; p_fits = omega arith; q_fits = omega arith; silent = λ e. absurd (omega arith) })
 
 -- checks 1 to 11; 1 to 12, and then others
 sheets-fit : (lay : Layout) (plan sheet : List ℕ) → SmallVerdict (sheet_checks lay plan sheet)
@@ -107,7 +107,7 @@ unfolding sheet_bytes row_bytes
 data-bytes k l = omega arith
 
 sheet-bytes : (lay : Layout) (plan : List ℕ) → Formed (code_of plan) → size_in lay (code_of plan).n1 (code_of plan).n2 ≤ 45056
-sheet-bytes lay plan F = layouts.size-most lay (code_of plan).n1 (code_of plan).n2 (record { n1-most = F.n1-most; n2-most = F.n2-most })
+sheet-bytes lay plan F = layouts.size_most lay (code_of plan).n1 (code_of plan).n2 (record { n1_most = F.n1_most; n2_most = F.n2_most })
 
 pub write-fits : (lay : Layout) (plan bits sheet : List ℕ) → SmallVerdict (write_checks lay plan bits sheet)
 unfolding write_checks
@@ -203,7 +203,7 @@ stack-fits plan stack numbers bits =
 
 found-fits : (r : Found) → SmallVerdict (found_verdict r)
 found-fits (Burst top left x) = accepted-fits
-found-fits Nothing = record { number_fits = omega arith; p-fits = omega arith; q-fits = omega arith; silent = λ _. (refl, refl) }
+found-fits Nothing = record { number_fits = omega arith; p_fits = omega arith; q_fits = omega arith; silent = λ _. (refl, refl) }
 
 pub read_fits : (lay : Layout) (plan sheet bits : List ℕ) → SmallVerdict (read_in lay plan sheet bits).verdict
 unfolding read_in read_verdict

@@ -26,7 +26,7 @@ pub record LineSet (t : ℕ) (f : ℕ → ℕ) (n lo hi step : ℕ) (T : ℕ →
   pub m : ℕ → Bool
   pub range : InRange lo (hi + step) m
   pub few : count_below n m ≤ t
-  pub in-T : T (chosen_sum n m f) ≡ true
+  pub in_T : T (chosen_sum n m f) ≡ true
   pub place : ℕ
   pub late : hi ≤ place
   pub below : place < n
@@ -74,7 +74,7 @@ module _ (t : ℕ) (t1 : 1 ≤ t) (t2 : t ≤ 2) (f : ℕ → ℕ) (n : ℕ) whe
         m = H.m;
         range = record { from = r.from; to = λ j q. omega (arith, r.to j q, w.1) };
         few = omega (arith, H.few, range-count lo (suc k) n H.m up r);
-        in-T = ap T (range-sum lo (suc k) n H.m up r f) ∙ H.in-T;
+        in_T = ap T (range-sum lo (suc k) n H.m up r f) ∙ H.in_T;
         place = k;
         late = omega arith;
         below = omega arith;
@@ -126,9 +126,9 @@ module _ (t : ℕ) (t1 : 1 ≤ t) (t2 : t ≤ 2) (f : ℕ → ℕ) (n : ℕ) whe
         let up : b + step + size ≡ b + size + step = omega arith in
         let q : InRange (b + step) (b + size + step) m' = record { from = r'.from; to = λ k q. omega (arith, r'.to k q) } in
         let c = range-count a (a + size) n m (omega arith) r in
-        let in-T : T (chosen_sum n m' f) ≡ true =
+        let in_T : T (chosen_sum n m' f) ≡ true =
         sets.set-of t t1 t2 f a size (chosen_sum n m' f) m r.from (omega arith) (sym (range-sum a (a + size) n m (omega arith) r f) ∙ s) in
-        let w = last_line (b + step) (b + size) step m' T (omega arith) on q l' in-T none in
+        let w = last_line (b + step) (b + size) step m' T (omega arith) on q l' in_T none in
         A m m' r (record { from = λ k q. omega (arith, w.from k q); to = w.to }) l l' s
 
     pub apart_next : PairApart a (b + step) size → line_hit t f (b + step) (b + size) step T ≡ false
@@ -136,7 +136,7 @@ module _ (t : ℕ) (t1 : 1 ≤ t) (t2 : t ≤ 2) (f : ℕ → ℕ) (n : ℕ) whe
         not-true (line_hit t f (b + step) (b + size) step T)
         (λ h.
         let L = line_set (b + step) (b + size) step T (omega arith) on h in
-        let S = sets.set-mask t t1 t2 f a size (chosen_sum n L.m f) L.in-T in
+        let S = sets.set-mask t t1 t2 f a size (chosen_sum n L.m f) L.in_T in
         let r = S.range in
         let up : a + size ≤ n = omega arith in
         clash
@@ -161,4 +161,4 @@ module _ (t : ℕ) (t1 : 1 ≤ t) (t2 : t ≤ 2) (f : ℕ → ℕ) (n : ℕ) whe
         not-true (line_hit t f lo' hi step (eqb 0))
         (λ h.
         let L = line_set lo' hi step (eqb 0) le' on h in
-        clash L.holds (N L.m L.range L.few (sym (eqb-true 0 (chosen_sum n L.m f) L.in-T)) L.place L.below))
+        clash L.holds (N L.m L.range L.few (sym (eqb-true 0 (chosen_sum n L.m f) L.in_T)) L.place L.below))

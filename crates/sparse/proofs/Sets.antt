@@ -85,7 +85,7 @@ pub record HitSet (t : ℕ) (f : ℕ → ℕ) (from k : ℕ) (T : ℕ → Bool) 
   pub range : InRange from (suc k) m
   pub last : m k ≡ true
   pub few : count_below (suc k) m ≤ t
-  pub in-T : T (chosen_sum (suc k) m f) ≡ true
+  pub in_T : T (chosen_sum (suc k) m f) ≡ true
 
 pub record SumSet (t : ℕ) (f : ℕ → ℕ) (from n x : ℕ) : Type 0 where
   pub m : ℕ → Bool
@@ -135,7 +135,7 @@ module _ (t : ℕ) (t1 : 1 ≤ t) (t2 : t ≤ 2) (f : ℕ → ℕ) where
         range = one-range from k u;
         last = one-here k;
         few = omega (arith, one-count k (suc k) (lt-suc_self k));
-        in-T = ap T (one-sum k (suc k) f (lt-suc_self k)) ∙ e;
+        in_T = ap T (one-sum k (suc k) f (lt-suc_self k)) ∙ e;
       })
       (λ e.
       let p = both (eqb t 2) (any_below (k - from) (λ d. T (f (from + d) ⊕ f k))) e in
@@ -147,7 +147,7 @@ module _ (t : ℕ) (t1 : 1 ≤ t) (t2 : t ≤ 2) (f : ℕ → ℕ) where
         range = couple-range (from + w.0) k l from (omega arith);
         last = couple-last (from + w.0) k l;
         few = omega (arith, couple-count (from + w.0) k l);
-        in-T = ap T (couple-sum (from + w.0) k l f) ∙ w.2;
+        in_T = ap T (couple-sum (from + w.0) k l f) ∙ w.2;
       })
 
   pub set-of : (from n x : ℕ) (m : ℕ → Bool) → From from m → count_below (from + n) m ≤ t → chosen_sum (from + n) m f ≡ x → set_sum t f from n x ≡ true
@@ -204,7 +204,7 @@ module _ (t : ℕ) (t1 : 1 ≤ t) (t2 : t ≤ 2) (f : ℕ → ℕ) where
         m = H.m;
         range = record { from = H.range.from; to = λ j q. omega (arith, H.range.to j q) };
         few = let q : count_below (from + suc n) H.m ≡ count_below (suc k) H.m = ap (λ (x : ℕ). count_below x H.m) at in omega (arith, H.few);
-        sum = ap (λ (x : ℕ). chosen_sum x H.m f) at ∙ eqb-true (chosen_sum (suc k) H.m f) x H.in-T;
+        sum = ap (λ (x : ℕ). chosen_sum x H.m f) at ∙ eqb-true (chosen_sum (suc k) H.m f) x H.in_T;
       })
     where
       k : ℕ
@@ -319,7 +319,7 @@ module _ (t : ℕ) (t1 : 1 ≤ t) (t2 : t ≤ 2) (f : ℕ → ℕ) where
       no : hit_at t f a i (set_sum t f a n) ≡ true → ⊥
       no h =
           let H = hit-set a i (set_sum t f a n) (omega arith) h in
-          let S = set-mask a n (chosen_sum (suc i) H.m f) H.in-T in
+          let S = set-mask a n (chosen_sum (suc i) H.m f) H.in_T in
           let r = S.range in
           let up : i ≤ a + suc n = omega arith in
           let e : count_below (a + suc n) H.m ≡ count_below (suc i) H.m = ap (λ (x : ℕ). count_below x H.m) at in

@@ -47,7 +47,7 @@ module _ (t : ℕ) (f : ℕ → ℕ) (first : ℕ) where
 pub record Begun (t : ℕ) (f : ℕ → ℕ) (first k count : ℕ) (sums marks : List ℕ) : Type 0 where
   pub long : length sums ≡ 257
   pub free : clear t f first k ≡ true
-  pub sums-of : SumsOf t f first k (take count sums) marks
+  pub sums_of : SumsOf t f first k (take count sums) marks
   pub least : 1 ≤ count
   pub most : count ≤ 1 + 16 * k
 
@@ -56,7 +56,7 @@ unfolding clear set_sum
 begun-start t f first e z = record {
   long = e;
   free = refl;
-  sums-of = record { marked = z.marked; are = λ x. z.are x ∙ eqb_comm 0 x };
+  sums_of = record { marked = z.marked; are = λ x. z.are x ∙ eqb_comm 0 x };
   least = omega (arith, z.count);
   most = omega (arith, z.count);
 }
@@ -65,7 +65,7 @@ module _ {t : ℕ} {f : ℕ → ℕ} {first k count r : ℕ} {old oldmarks sums 
     (s : Stepped t f first (first + k) count r old sums marks) where
   -- what was asked of the list was asked of the sums of the sets
   asked : hit_at t f first (first + k) (one_of (take count old)) ≡ hit_at t f first (first + k) (set_sum t f first k)
-  asked = hit-equal t f first (first + k) (one_of (take count old)) (set_sum t f first k) b.sums-of.are
+  asked = hit-equal t f first (first + k) (one_of (take count old)) (set_sum t f first k) b.sums_of.are
 
   pub begun-next : 1 ≤ r → Begun t f first (k + 1) r sums marks
   begun-next l =
@@ -75,11 +75,11 @@ module _ {t : ℕ} {f : ℕ → ℕ} {first k count r : ℕ} {old oldmarks sums 
       record {
         long = g.long;
         free = clear-more t f first k b.free (sym asked ∙ s.some l);
-        sums-of =
+        sums_of =
             record {
               marked = g.marked;
               are = λ x.
-                  g.are x ∙ ap (λ (a : Bool). a || hit_at t f first (first + k) (λ y. eqb y x)) (b.sums-of.are x) ∙ sum_more t f first k x;
+                  g.are x ∙ ap (λ (a : Bool). a || hit_at t f first (first + k) (λ y. eqb y x)) (b.sums_of.are x) ∙ sum_more t f first k x;
             };
         least = l;
         most = omega arith;
@@ -89,7 +89,7 @@ module _ {t : ℕ} {f : ℕ → ℕ} {first k count r : ℕ} {old oldmarks sums 
   begun-stops size l z = record {
     none = λ e. clear-stop t f first size k l (sym asked ∙ s.none z);
     some = λ u. absurd (omega arith);
-    sums-of = λ u. absurd (omega arith);
+    sums_of = λ u. absurd (omega arith);
     most = omega arith;
   }
 
@@ -101,7 +101,7 @@ begun-ends {t} {f} {first} {size} {r} b l =
     record {
       none = λ e. absurd (omega arith);
       some = λ u. b.free;
-      sums-of = λ u. b.sums-of;
+      sums_of = λ u. b.sums_of;
       most = omega arith;
     }
 

@@ -41,5 +41,5 @@ pub record Room (words : List ℕ) (first size : ℕ) (sums marks : List ℕ) : 
 pub record Windowed (t : ℕ) (f : ℕ → ℕ) (first size r : ℕ) (sums marks : List ℕ) : Type 0 where
   pub none : r ≡ 0 → clear t f first size ≡ false
   pub some : 1 ≤ r → clear t f first size ≡ true
-  pub sums-of : 1 ≤ r → SumsOf t f first size (take r sums) marks
+  pub sums_of : 1 ≤ r → SumsOf t f first size (take r sums) marks
   pub most : r ≤ 257

@@ -24,8 +24,8 @@ module _ (plan stack numbers bits : List ℕ) (F : StackFits plan stack numbers 
       let n = sheet_count stack in
       record {
         accepted = F.accepted;
-        sheet-size = part_length stack (sheet_place (sheet_size c) n i) (sheet_size c) (sheet-inside plan c refl n (lent stack numbers bits) (sized F) i l);
-        bits-size = part_length bits (i * data_bytes c) (data_bytes c) (bits_inside plan c refl n (lent stack numbers bits) (sized F) i l);
+        sheet_len = part_length stack (sheet_place (sheet_size c) n i) (sheet_size c) (sheet-inside plan c refl n (lent stack numbers bits) (sized F) i l);
+        bits_size = part_length bits (i * data_bytes c) (data_bytes c) (bits_inside plan c refl n (lent stack numbers bits) (sized F) i l);
       }
 
   pub alone-told : OneOf (read_alone plan stack bits i).verdict.number

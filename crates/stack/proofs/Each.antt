@@ -73,9 +73,9 @@ module _ (plan stack numbers bits : List ℕ) (F : StackFits plan stack numbers 
       let t = length-append front (joined n (λ i. (read_alone plan stack bits i).sheet)) in
       record {
         header = sym (take_at front (joined n (λ i. (read_alone plan stack bits i).sheet)) (header_end n) b);
-        stack-size = omega arith;
-        numbers-size = F.numbers-size ∙ sym v;
-        bits-size = F.bits-size ∙ sym w;
+        stack_size = omega arith;
+        numbers_len = F.numbers_len ∙ sym v;
+        bits_size = F.bits_size ∙ sym w;
       }
 
   each-sheet : (i : ℕ) → i < n → sheet_at (code_of plan) (each_read plan stack bits).stack i ≡ (read_alone plan stack bits i).sheet
@@ -117,7 +117,7 @@ module _ (plan stack numbers bits : List ℕ) where
     where
       go : Dec ((stack_checks plan stack numbers bits).number ≡ 0) → SameFrame (lent stack numbers bits) (read_stack plan stack numbers bits).left
       go (yes e) = rw (stack-reads e) (each-frame plan stack numbers bits (stack-zero plan stack numbers bits e))
-      go (no h) = rw (stack-refuses h) record { header = refl; stack-size = refl; numbers-size = refl; bits-size = refl }
+      go (no h) = rw (stack-refuses h) record { header = refl; stack_size = refl; numbers_len = refl; bits_size = refl }
 
   module _ (e : (stack_checks plan stack numbers bits).number ≡ 0) (i : ℕ) (l : i < sheet_count stack) where
     left-each : (read_stack plan stack numbers bits).left ≡ each_read plan stack bits
@@ -149,7 +149,7 @@ pub same-checks : (plan : List ℕ) (k l : Lent) → SameFrame k l
 unfolding stack_checks length_verdict
 same-checks plan k l O =
     let u = same_count k.stack l.stack O.header in
-    let v = same-broken k.stack l.stack O.header O.stack-size (sheet_size (code_of plan)) in
-    let x = O.numbers-size in
-    let y = O.bits-size in
+    let v = same-broken k.stack l.stack O.header O.stack_size (sheet_size (code_of plan)) in
+    let x = O.numbers_len in
+    let y = O.bits_size in
     λ j. told plan (u j) (v j) (x j) (y j)

@@ -28,11 +28,11 @@ use Rattle.stack.proofs.Order.{number_of}
 pub record StackFits (plan stack numbers bits : List ℕ) : Type 0 where
   pub accepted : Accepted plan
   pub whole : Whole (sheet_size (code_of plan)) stack
-  pub numbers-size : length numbers ≡ sheet_count stack * numbers_size
-  pub bits-size : length bits ≡ sheet_count stack * data_bytes (code_of plan)
+  pub numbers_len : length numbers ≡ sheet_count stack * numbers_size
+  pub bits_size : length bits ≡ sheet_count stack * data_bytes (code_of plan)
 
 pub sized : {plan stack numbers bits : List ℕ} → StackFits plan stack numbers bits → Sized (code_of plan) (sheet_count stack) (lent stack numbers bits)
-sized F = record { stack-size = F.whole.long; numbers-size = F.numbers-size; bits-size = F.bits-size }
+sized F = record { stack_size = F.whole.long; numbers_len = F.numbers_len; bits_size = F.bits_size }
 
 module _ (plan stack numbers bits : List ℕ) where
   pub stack-zero : (stack_checks plan stack numbers bits).number ≡ 0 → StackFits plan stack numbers bits
@@ -44,8 +44,8 @@ module _ (plan stack numbers bits : List ℕ) where
       record {
         accepted = accepted-plan plan p.0;
         whole = whole (sheet_size (code_of plan)) stack (if-zero (stack_broken (sheet_size (code_of plan)) stack) 19 0 0 q.0);
-        numbers-size = length-right 20 numbers _ r.0;
-        bits-size = length-right 11 bits _ r.1;
+        numbers_len = length-right 20 numbers _ r.0;
+        bits_size = length-right 11 bits _ r.1;
       }
 
   form-passes : StackFits plan stack numbers bits → stack_form (code_of plan) stack ≡ accepted
@@ -56,8 +56,8 @@ module _ (plan stack numbers bits : List ℕ) where
   stacks-pass F =
       else-second (plan_verdict plan) _ (number_of (plan-accepted plan F.accepted))
       ∙ else-second (stack_form (code_of plan) stack) _ (number_of (form-passes F))
-      ∙ else-second (numbers_length (sheet_count stack) numbers) _ (number_of (right-length 21 numbers _ F.numbers-size))
-      ∙ right-length 12 bits _ F.bits-size
+      ∙ else-second (numbers_length (sheet_count stack) numbers) _ (number_of (right-length 21 numbers _ F.numbers_len))
+      ∙ right-length 12 bits _ F.bits_size
 
   -- ---- what the answer of the checks decides
 

@@ -56,10 +56,10 @@ module _ (plan : List ℕ) (c : Code) (is : c ≡ code_of plan) (n : ℕ) (b : L
 
   pub sheet-inside : (i : ℕ) → i < n → sheet_place (sheet_size c) n i + sheet_size c ≤ length b.stack
   unfolding sheet_place
-  sheet-inside i l = let q = part-inside (header_end n) (sheet_size c) n i l in let e = S.stack-size in omega arith
+  sheet-inside i l = let q = part-inside (header_end n) (sheet_size c) n i l in let e = S.stack_size in omega arith
 
   pub bits_inside : (i : ℕ) → i < n → i * data_bytes c + data_bytes c ≤ length b.bits
-  bits_inside i l = let q = part-inside 0 (data_bytes c) n i l in let e = S.bits-size in omega arith
+  bits_inside i l = let q = part-inside 0 (data_bytes c) n i l in let e = S.bits_size in omega arith
 
   pub read-sheet : (i : ℕ) → i < n → length (read i).sheet ≡ sheet_size c
   read-sheet i l =
@@ -84,13 +84,13 @@ module _ (plan : List ℕ) (c : Code) (is : c ≡ code_of plan) (n : ℕ) (b : L
   partly_sized i l =
       let p : i * sheet_size c ≤ n * sheet_size c = mul-le-mul_right (sheet_size c) l in
       let q : i * data_bytes c ≤ n * data_bytes c = mul-le-mul_right (data_bytes c) l in
-      let e = S.stack-size in
-      let f = S.numbers-size in
-      let g = S.bits-size in
+      let e = S.stack_size in
+      let f = S.numbers_len in
+      let g = S.bits_size in
       record {
-        stack-size = laid-length (header_end n) (sheet_size c) i (λ j. (read j).sheet) b.stack (λ j lj. read-sheet j (omega arith)) (omega arith) ∙ e;
-        numbers-size = laid-length 0 numbers_size i (λ j. number_bytes (read j)) b.numbers (λ j lj. numbers-length (read j)) (omega arith) ∙ f;
-        bits-size = laid-length 0 (data_bytes c) i (λ j. (read j).bits) b.bits (λ j lj. read-bits j (omega arith)) (omega arith) ∙ g;
+        stack_size = laid-length (header_end n) (sheet_size c) i (λ j. (read j).sheet) b.stack (λ j lj. read-sheet j (omega arith)) (omega arith) ∙ e;
+        numbers_len = laid-length 0 numbers_size i (λ j. number_bytes (read j)) b.numbers (λ j lj. numbers-length (read j)) (omega arith) ∙ f;
+        bits_size = laid-length 0 (data_bytes c) i (λ j. (read j).bits) b.bits (λ j lj. read-bits j (omega arith)) (omega arith) ∙ g;
       }
 
   module _ (i : ℕ) (l : i < n) where
@@ -99,7 +99,7 @@ module _ (plan : List ℕ) (c : Code) (is : c ≡ code_of plan) (n : ℕ) (b : L
     unfolding partly sheet_place
     same_read =
         let u = laid-part (header_end n) (sheet_size c) i (λ j. (read j).sheet) b.stack (λ j lj. read-sheet j (omega arith)) (sheet-inside i l) in
-        let v = first_part (data_bytes c) n i (λ j. (read j).bits) b.bits S.bits-size l (λ j lj. read-bits j (omega arith)) in
+        let v = first_part (data_bytes c) n i (λ j. (read j).bits) b.bits S.bits_size l (λ j lj. read-bits j (omega arith)) in
         ap₂ (read_outcome plan) u v
 
     pub partly-next : stepped plan c n i (partly plan c n i b) ≡ partly plan c n (suc i) b
@@ -110,9 +110,9 @@ module _ (plan : List ℕ) (c : Code) (is : c ≡ code_of plan) (n : ℕ) (b : L
         let u = ap (λ (o : Outcome). replaced p.stack (header_end n + i * sheet_size c) (sheet_size c) o.sheet) e
         ∙ laid_next (header_end n) (sheet_size c) i (λ j. (read j).sheet) b.stack (λ j lj. read-sheet j (omega arith)) (sheet-inside i l) in
         let v = ap (λ (o : Outcome). replaced p.numbers (i * numbers_size) numbers_size (number_bytes o)) e
-        ∙ first_next numbers_size n i (λ j. number_bytes (read j)) b.numbers S.numbers-size l (λ j lj. numbers-length (read j)) in
+        ∙ first_next numbers_size n i (λ j. number_bytes (read j)) b.numbers S.numbers_len l (λ j lj. numbers-length (read j)) in
         let w = ap (λ (o : Outcome). replaced p.bits (i * data_bytes c) (data_bytes c) o.bits) e
-        ∙ first_next (data_bytes c) n i (λ j. (read j).bits) b.bits S.bits-size l (λ j lj. read-bits j (omega arith)) in
+        ∙ first_next (data_bytes c) n i (λ j. (read j).bits) b.bits S.bits_size l (λ j lj. read-bits j (omega arith)) in
         λ k. lent (u k) (v k) (w k)
 
   -- each sheet's read in its place, by the code and the count of that name
@@ -124,8 +124,8 @@ module _ (plan : List ℕ) (c : Code) (is : c ≡ code_of plan) (n : ℕ) (b : L
   pub partly-all : n ≡ sheet_count b.stack → partly plan c n n b ≡ each_read plan b.stack b.bits
   unfolding partly each_read read_alone sheet_place
   partly-all e =
-      let u = laid-all (header_end n) (sheet_size c) n (λ j. (read j).sheet) b.stack S.stack-size in
-      let v = laid-all 0 numbers_size n (λ j. number_bytes (read j)) b.numbers (S.numbers-size ∙ sym (zero-add (n * numbers_size))) in
-      let w = laid-all 0 (data_bytes c) n (λ j. (read j).bits) b.bits (S.bits-size ∙ sym (zero-add (n * data_bytes c))) in
+      let u = laid-all (header_end n) (sheet_size c) n (λ j. (read j).sheet) b.stack S.stack_size in
+      let v = laid-all 0 numbers_size n (λ j. number_bytes (read j)) b.numbers (S.numbers_len ∙ sym (zero-add (n * numbers_size))) in
+      let w = laid-all 0 (data_bytes c) n (λ j. (read j).bits) b.bits (S.bits_size ∙ sym (zero-add (n * data_bytes c))) in
       let h : partly plan c n n b ≡ placed c n = λ k. lent (u k) (v k) (w k) in
       h ∙ ap₂ placed is e

@@ -79,9 +79,9 @@ lent s t b = record { stack = s; numbers = t; bits = b }
 
 pub record SameFrame (l l' : Lent) : Type 0 where
   pub header : take (header_end (sheet_count l.stack)) l.stack ≡ take (header_end (sheet_count l.stack)) l'.stack
-  pub stack-size : length l.stack ≡ length l'.stack
-  pub numbers-size : length l.numbers ≡ length l'.numbers
-  pub bits-size : length l.bits ≡ length l'.bits
+  pub stack_size : length l.stack ≡ length l'.stack
+  pub numbers_len : length l.numbers ≡ length l'.numbers
+  pub bits_size : length l.bits ≡ length l'.bits
 
 unfoldable pub each_read : (plan stack bits : List ℕ) → Lent
 each_read plan stack bits =

@@ -13,9 +13,9 @@ use Rattle.reader.specs.Read.{Outcome, read_outcome}
 use Rattle.stack.specs.ReadStack.{sheet_size, data_bytes, bits_at, number_bytes, Lent, lent}
 
 pub record Sized (c : Code) (n : ℕ) (l : Lent) : Type 0 where
-  pub stack-size : length l.stack ≡ sheet_place (sheet_size c) n n
-  pub numbers-size : length l.numbers ≡ n * numbers_size
-  pub bits-size : length l.bits ≡ n * data_bytes c
+  pub stack_size : length l.stack ≡ sheet_place (sheet_size c) n n
+  pub numbers_len : length l.numbers ≡ n * numbers_size
+  pub bits_size : length l.bits ≡ n * data_bytes c
 
 abbrev pub read_left : Outcome → Lent
 read_left o = lent o.sheet (number_bytes o) o.bits

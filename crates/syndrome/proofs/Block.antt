@@ -82,15 +82,15 @@ module _ (h : Header) (rows columns : List ℕ) (T : Tables h rows columns) (j :
 
   pub part-words : Words h.n1 h.b2 h.b1 (j % h.b2) own rows
   part-words = record {
-    n2-most = omega (arith, T.small.n1-most);
-    b1-most = T.small.b2-most;
-    b2-pos = T.small.b1-pos;
-    b2-most = T.small.b1-most;
-    q-below = mod-lt j T.small.b2-pos;
-    rows_long = let l = own-inside in let m = T.columns-long in simp (length-take, length-drop) (omega arith);
-    rows-below = λ k l. rw (own-entry k l) (T.columns-below (j * h.b1 + k) (digits_lt lj l));
-    columns-long = T.rows_long;
-    columns-below = T.rows-below;
+    n2_most = omega (arith, T.small.n1_most);
+    b1_most = T.small.b2_most;
+    b2_pos = T.small.b1_pos;
+    b2_most = T.small.b1_most;
+    q_below = mod-lt j T.small.b2_pos;
+    rows_long = let l = own-inside in let m = T.columns_long in simp (length-take, length-drop) (omega arith);
+    rows_below = λ k l. rw (own-entry k l) (T.columns_below (j * h.b1 + k) (digits_lt lj l));
+    columns_long = T.rows_long;
+    columns_below = T.rows_below;
   }
 
   part-rows : (i : ℕ) → columns_at h.b2 (j % h.b2) rows i ≡ row_weight (tabled h rows columns) i j
@@ -99,7 +99,7 @@ module _ (h : Header) (rows columns : List ℕ) (T : Tables h rows columns) (j :
 
   part-columns : (i : ℕ) → rows_at h.b1 own i ≡ column_weight (tabled h rows columns) i j
   unfolding rows_at column_weight
-  part-columns i = own-entry (i % h.b1) (mod-lt i T.small.b1-pos)
+  part-columns i = own-entry (i % h.b1) (mod-lt i T.small.b1_pos)
 
   pub part-done : (s : List ℕ) (b : ℕ) (r : Sums)
       → ByteSums h.n1 h.b2 h.b1 (j % h.b2) own rows (get_or s (j * row_bytes h.n1 + b) 0) (8 * b) r
@@ -115,8 +115,8 @@ module _ (h : Header) (rows columns : List ℕ) (T : Tables h rows columns) (j :
         column =
             B.row ∙ byte-equal (rows_at h.b1 own) (λ i. column_weight c i j) x (8 * b) n (λ t l. part-columns (8 * b + t))
             ∙ sym (part-byte h.n1 h.n2 (column_weight c) s b j);
-        row_below = B.column-below;
-        column-below = B.row_below;
+        row_below = B.column_below;
+        column_below = B.row_below;
       }
 
 -- ---- a block, and the blocks fed so far
@@ -179,10 +179,10 @@ module _ (p : List ℕ) (h : Header) (F : Framed p h) (rows columns : List ℕ) 
   pub tables-of : Tables h rows columns
   tables-of = record {
     small = F.small;
-    rows_long = let a = F.small.row-positions in let b = R.size in omega arith;
-    rows-below = R.below;
-    columns-long = let a = F.small.column-positions in let b = U.size in omega arith;
-    columns-below = U.below;
+    rows_long = let a = F.small.row_positions in let b = R.size in omega arith;
+    rows_below = R.below;
+    columns_long = let a = F.small.column_positions in let b = U.size in omega arith;
+    columns_below = U.below;
   }
 
   same-run : (v w : ℕ → ℕ → ℕ) (s : Cells) (a b : ℕ) → ((i j : ℕ) → i < h.n1 → j < h.n2 → v i j ≡ w i j)
@@ -194,11 +194,11 @@ module _ (p : List ℕ) (h : Header) (F : Framed p h) (rows columns : List ℕ) 
 
   row_same : (i j : ℕ) → i < h.n1 → j < h.n2 → row_weight (tabled h rows columns) i j ≡ row_weight (code_with p h) i j
   unfolding row_weight
-  row_same i j li lj = R.entry (i * h.b2 + j % h.b2) (digits_lt li (mod-lt j F.small.b2-pos))
+  row_same i j li lj = R.entry (i * h.b2 + j % h.b2) (digits_lt li (mod-lt j F.small.b2_pos))
 
   column-same : (i j : ℕ) → i < h.n1 → j < h.n2 → column_weight (tabled h rows columns) i j ≡ column_weight (code_with p h) i j
   unfolding column_weight
-  column-same i j li lj = U.entry (j * h.b1 + i % h.b1) (digits_lt lj (mod-lt i F.small.b1-pos))
+  column-same i j li lj = U.entry (j * h.b1 + i % h.b1) (digits_lt lj (mod-lt i F.small.b1_pos))
 
   pub plan-sums : (s : Cells) (a b : ℕ) (r : Sums) → RunSums (tabled h rows columns) s a b r → RunSums (code_with p h) s a b r
   unfolding row_syndrome_in column_syndrome_in

@@ -43,14 +43,14 @@ cell-in-byte n2 s i b t l =
 -- after b bytes: the sums of the cells passed, of weights f and g
 pub record Line (n2 : ℕ) (p : ℕ → Bool) (f g : ℕ → ℕ) (row column b : ℕ) : Type 0 where
   pub row_is : row ≡ chosen_sum (min (8 * b) n2) p f
-  pub column-is : column ≡ chosen_sum (min (8 * b) n2) p g
+  pub column_is : column ≡ chosen_sum (min (8 * b) n2) p g
 
 pub line_first : (n2 : ℕ) (p : ℕ → Bool) (f g : ℕ → ℕ) → Line n2 p f g 0 0 0
 line_first n2 p f g =
     let e : min (8 * 0) n2 ≡ 0 = omega arith in
     record {
       row_is = sym (ap (λ (n : ℕ). chosen_sum n p f) e ∙ sum-none (λ k. pick (p k) (f k)));
-      column-is = sym (ap (λ (n : ℕ). chosen_sum n p g) e ∙ sum-none (λ k. pick (p k) (g k)));
+      column_is = sym (ap (λ (n : ℕ). chosen_sum n p g) e ∙ sum-none (λ k. pick (p k) (g k)));
     }
 
 pub line-next : (n2 : ℕ) (p : ℕ → Bool) (f g : ℕ → ℕ) (row column b x : ℕ) (r : Sums) → Line n2 p f g row column b → 8 * b < n2
@@ -58,7 +58,7 @@ pub line-next : (n2 : ℕ) (p : ℕ → Bool) (f g : ℕ → ℕ) (row column b 
     → Line n2 p f g (bit_xor row r.row) (bit_xor column r.column) (b + 1)
 line-next n2 p f g row column b x r L l cells two = record {
   row_is = added f row r.row L.row_is two.row;
-  column-is = added g column r.column L.column-is two.column;
+  column_is = added g column r.column L.column_is two.column;
 }
   where
     added : (w : ℕ → ℕ) (a v : ℕ) → a ≡ chosen_sum (min (8 * b) n2) p w → v ≡ byte_sum w x (8 * b) (min 8 (n2 - 8 * b))
@@ -77,24 +77,24 @@ module _ (s : List ℕ) (h : Header) (F : Framed s h) (columns : List ℕ) (U : 
     (i : ℕ) (li : i < h.n1) (rows : List ℕ) (R : RowWords (λ k. row_entry_at s (i * h.b2 + k)) h.b2 rows) where
   pub words_of : Words h.n2 h.b1 h.b2 (i % h.b1) rows columns
   words_of = record {
-    n2-most = F.small.n2-most;
-    b1-most = F.small.b1-most;
-    b2-pos = F.small.b2-pos;
-    b2-most = F.small.b2-most;
-    q-below = mod-lt i F.small.b1-pos;
-    rows_long = let a = F.small.b2-most in let b = R.size in omega arith;
-    rows-below = R.below;
-    columns-long = let a = F.small.column-positions in let b = U.size in omega arith;
-    columns-below = U.below;
+    n2_most = F.small.n2_most;
+    b1_most = F.small.b1_most;
+    b2_pos = F.small.b2_pos;
+    b2_most = F.small.b2_most;
+    q_below = mod-lt i F.small.b1_pos;
+    rows_long = let a = F.small.b2_most in let b = R.size in omega arith;
+    rows_below = R.below;
+    columns_long = let a = F.small.column_positions in let b = U.size in omega arith;
+    columns_below = U.below;
   }
 
   pub row-tables : (j : ℕ) → rows_at h.b2 rows j ≡ row_weight (code_with s h) i j
   unfolding rows_at row_weight
-  row-tables j = R.entry (j % h.b2) (mod-lt j F.small.b2-pos)
+  row-tables j = R.entry (j % h.b2) (mod-lt j F.small.b2_pos)
 
   pub column-tables : (j : ℕ) → j < h.n2 → columns_at h.b1 (i % h.b1) columns j ≡ column_weight (code_with s h) i j
   unfolding columns_at column_weight
-  column-tables j l = U.entry (j * h.b1 + i % h.b1) (digits_lt l (mod-lt i F.small.b1-pos))
+  column-tables j l = U.entry (j * h.b1 + i % h.b1) (digits_lt l (mod-lt i F.small.b1_pos))
 
   pub line_row : (t : Cells) → chosen_sum h.n2 (t i) (rows_at h.b2 rows) ≡ row_sum h.n2 (row_weight (code_with s h)) t i
   unfolding row_sum
@@ -112,7 +112,7 @@ module _ (s : List ℕ) (h : Header) (F : Framed s h) (columns : List ℕ) (U : 
       let n : min (8 * b) h.n2 ≡ h.n2 = omega arith in
       let v : row ≡ chosen_sum h.n2 (t i) (rows_at h.b2 rows) = L.row_is ∙ ap (λ (k : ℕ). chosen_sum k (t i) (rows_at h.b2 rows)) n in
       let w : column ≡ chosen_sum h.n2 (t i) (columns_at h.b1 (i % h.b1) columns) =
-      L.column-is ∙ ap (λ (k : ℕ). chosen_sum k (t i) (columns_at h.b1 (i % h.b1) columns)) n in
+      L.column_is ∙ ap (λ (k : ℕ). chosen_sum k (t i) (columns_at h.b1 (i % h.b1) columns)) n in
       record {
         row = v ∙ line_row t;
         column = w ∙ line-column t;

@@ -104,36 +104,36 @@ index-next j t b1 q =
 
 module _ (n2 b1 b2 q : ℕ) (rows columns : List ℕ) (W : Words n2 b1 b2 q rows columns) where
   pub place-below : (j : ℕ) → j % b2 < b2
-  place-below j = mod-lt j W.b2-pos
+  place-below j = mod-lt j W.b2_pos
 
   pub index_below : (j : ℕ) → j < n2 → j * b1 + q < n2 * b1
-  index_below j l = digits_lt l W.q-below
+  index_below j l = digits_lt l W.q_below
 
   pub row-weight : (j : ℕ) → rows_at b2 rows j < 2 ^ 32
   unfolding rows_at
-  row-weight j = W.rows-below (j % b2) (place-below j)
+  row-weight j = W.rows_below (j % b2) (place-below j)
 
   pub column-weight : (j : ℕ) → j < n2 → columns_at b1 q columns j < 2 ^ 32
   unfolding columns_at
-  column-weight j l = W.columns-below (j * b1 + q) (index_below j l)
+  column-weight j l = W.columns_below (j * b1 + q) (index_below j l)
 
 -- ---- the walk along the cells of a byte
 
 -- after t cells of the byte x, from column j on: the digits that are left, the two counters and the two sums
 pub record Walk (x j b1 b2 q : ℕ) (rows columns : List ℕ) (rest place k row column t : ℕ) : Type 0 where
-  pub rest-is : rest ≡ x / 2 ^ t
+  pub rest_is : rest ≡ x / 2 ^ t
   pub place_is : place ≡ (j + t) % b2
-  pub k-is : k ≡ (j + t) * b1 + q
+  pub k_is : k ≡ (j + t) * b1 + q
   pub row_is : row ≡ byte_sum (rows_at b2 rows) x j t
-  pub column-is : column ≡ byte_sum (columns_at b1 q columns) x j t
+  pub column_is : column ≡ byte_sum (columns_at b1 q columns) x j t
 
 pub walk_first : (x j b1 b2 q : ℕ) (rows columns : List ℕ) → Walk x j b1 b2 q rows columns x (j % b2) (j * b1 + q) 0 0 0
 walk_first x j b1 b2 q rows columns = record {
-  rest-is = sym (div-one x);
+  rest_is = sym (div-one x);
   place_is = ap (λ (y : ℕ). y % b2) (sym (add-zero j));
-  k-is = ap (λ (y : ℕ). y * b1 + q) (sym (add-zero j));
+  k_is = ap (λ (y : ℕ). y * b1 + q) (sym (add-zero j));
   row_is = sym (byte-first (rows_at b2 rows) x j);
-  column-is = sym (byte-first (columns_at b1 q columns) x j);
+  column_is = sym (byte-first (columns_at b1 q columns) x j);
 }
 
 pub walk-next : (x j b1 b2 q : ℕ) (rows columns : List ℕ) (rest place k row column t place' : ℕ)
@@ -142,27 +142,27 @@ pub walk-next : (x j b1 b2 q : ℕ) (rows columns : List ℕ) (rest place k row 
     (bit_xor column (get_or columns k 0 * (rest % 2))) (t + 1)
 unfolding rows_at columns_at
 walk-next x j b1 b2 q rows columns rest place k row column t place' W e = record {
-  rest-is = ap (λ (y : ℕ). y / 2) W.rest-is ∙ rest-next x t;
+  rest_is = ap (λ (y : ℕ). y / 2) W.rest_is ∙ rest-next x t;
   place_is = e ∙ ap (λ (y : ℕ). (y + 1) % b2) W.place_is ∙ place-next j t b2;
-  k-is = ap (λ (y : ℕ). y + b1) W.k-is ∙ index-next j t b1 q;
+  k_is = ap (λ (y : ℕ). y + b1) W.k_is ∙ index-next j t b1 q;
   row_is = added rows place ((j + t) % b2) row (byte_sum (rows_at b2 rows) x j t) W.place_is W.row_is ∙ sym (byte_next (rows_at b2 rows) x j t);
-  column-is = added columns k ((j + t) * b1 + q) column (byte_sum (columns_at b1 q columns) x j t) W.k-is W.column-is
+  column_is = added columns k ((j + t) * b1 + q) column (byte_sum (columns_at b1 q columns) x j t) W.k_is W.column_is
       ∙ sym (byte_next (columns_at b1 q columns) x j t);
 }
   where
     added : (l : List ℕ) (k k' a a' : ℕ) → k ≡ k' → a ≡ a' → bit_xor a (get_or l k 0 * (rest % 2)) ≡ a' ⊕ (get_or l k' 0 * (x / 2 ^ t % 2))
     added l k k' a a' ek ea =
-        xor_is a (get_or l k 0 * (rest % 2)) ∙ ap₂ ◌⊕◌ ea (ap₂ (λ (u v : ℕ). get_or l u 0 * (v % 2)) ek W.rest-is)
+        xor_is a (get_or l k 0 * (rest % 2)) ∙ ap₂ ◌⊕◌ ea (ap₂ (λ (u v : ℕ). get_or l u 0 * (v % 2)) ek W.rest_is)
 
 pub record Here (n2 b1 b2 : ℕ) (rows columns : List ℕ) (place k : ℕ) : Type 0 where
   pub place_in : place < b2
   pub row_word : get_or rows place 0 < 4294967296
-  pub k-in : k < n2 * b1
-  pub column-word : get_or columns k 0 < 4294967296
+  pub k_in : k < n2 * b1
+  pub column_word : get_or columns k 0 < 4294967296
 
 pub walk_here : (n2 x j b1 b2 q : ℕ) (rows columns : List ℕ) (rest place k row column t : ℕ) → Words n2 b1 b2 q rows columns
     → Walk x j b1 b2 q rows columns rest place k row column t → j + t < n2 → Here n2 b1 b2 rows columns place k
 walk_here n2 x j b1 b2 q rows columns rest place k row column t W K l =
     let p : place < b2 = rw K.place_is (place-below n2 b1 b2 q rows columns W (j + t)) in
-    let i : k < n2 * b1 = rw K.k-is (index_below n2 b1 b2 q rows columns W (j + t) l) in
-    record { place_in = p; row_word = W.rows-below place p; k-in = i; column-word = W.columns-below k i }
+    let i : k < n2 * b1 = rw K.k_is (index_below n2 b1 b2 q rows columns W (j + t) l) in
+    record { place_in = p; row_word = W.rows_below place p; k_in = i; column_word = W.columns_below k i }

@@ -32,9 +32,9 @@ tabled h rows columns = code_from h (word_at rows) (word_at columns) (λ k. 0) (
 pub record Tables (h : Header) (rows columns : List ℕ) : Type 0 where
   pub small : Small h
   pub rows_long : h.n1 * h.b2 ≤ length rows
-  pub rows-below : (k : ℕ) → k < h.n1 * h.b2 → word_at rows k < 4294967296
-  pub columns-long : h.n2 * h.b1 ≤ length columns
-  pub columns-below : (k : ℕ) → k < h.n2 * h.b1 → word_at columns k < 4294967296
+  pub rows_below : (k : ℕ) → k < h.n1 * h.b2 → word_at rows k < 4294967296
+  pub columns_long : h.n2 * h.b1 ≤ length columns
+  pub columns_below : (k : ℕ) → k < h.n2 * h.b1 → word_at columns k < 4294967296
 
 abbrev pub PartSums : Code → Cells → ℕ → ℕ → Sums → Type 0
 PartSums c s b j r =

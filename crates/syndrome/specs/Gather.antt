@@ -36,21 +36,21 @@ pub record RowWords (f : ℕ → ℕ) (n : ℕ) (words : List ℕ) : Type 0 wher
 
 -- n2 columns of weights: V entries by j modulo b2, H entries at j × b1 + q
 pub record Words (n2 b1 b2 q : ℕ) (rows columns : List ℕ) : Type 0 where
-  pub n2-most : n2 ≤ 698
-  pub b1-most : b1 ≤ 4
-  pub b2-pos : 1 ≤ b2
-  pub b2-most : b2 ≤ 4
-  pub q-below : q < b1
+  pub n2_most : n2 ≤ 698
+  pub b1_most : b1 ≤ 4
+  pub b2_pos : 1 ≤ b2
+  pub b2_most : b2 ≤ 4
+  pub q_below : q < b1
   pub rows_long : b2 ≤ length rows
-  pub rows-below : (k : ℕ) → k < b2 → get_or rows k 0 < 4294967296
-  pub columns-long : n2 * b1 ≤ length columns
-  pub columns-below : (k : ℕ) → k < n2 * b1 → get_or columns k 0 < 4294967296
+  pub rows_below : (k : ℕ) → k < b2 → get_or rows k 0 < 4294967296
+  pub columns_long : n2 * b1 ≤ length columns
+  pub columns_below : (k : ℕ) → k < n2 * b1 → get_or columns k 0 < 4294967296
 
 pub record TwoSums (v h : ℕ) (r : Sums) : Type 0 where
   pub row : r.row ≡ v
   pub column : r.column ≡ h
   pub row_below : r.row < 4294967296
-  pub column-below : r.column < 4294967296
+  pub column_below : r.column < 4294967296
 
 abbrev pub ByteSums : (n2 b1 b2 q : ℕ) → List ℕ → List ℕ → ℕ → ℕ → Sums → Type 0
 ByteSums n2 b1 b2 q rows columns x j r =

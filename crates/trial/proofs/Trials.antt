@@ -67,13 +67,13 @@ module _ (n1 n2 top left b1 b2 : ℕ) (rows : top + b1 ≤ n1) (columns : left +
   off-row i j h =
       unpicked (box_cells top left b1 b2 x i j) (w i j)
       (not-true (box_cells top left b1 b2 x i j)
-      (λ t. h ((box-inside top left b1 b2 x).row_from i j t) ((box-inside top left b1 b2 x).row-to i j t)))
+      (λ t. h ((box-inside top left b1 b2 x).row_from i j t) ((box-inside top left b1 b2 x).row_to i j t)))
 
   off-column : (i j : ℕ) → (left ≤ j → j < left + b2 → ⊥) → adds i j ≡ 0
   off-column i j h =
       unpicked (box_cells top left b1 b2 x i j) (w i j)
       (not-true (box_cells top left b1 b2 x i j)
-      (λ t. h ((box-inside top left b1 b2 x).column-from i j t) ((box-inside top left b1 b2 x).column-to i j t)))
+      (λ t. h ((box-inside top left b1 b2 x).column_from i j t) ((box-inside top left b1 b2 x).column_to i j t)))
 
   -- a cell of the rectangle, by its row and column there
   on-box : (r d : ℕ) → r < b1 → d < b2 → adds (top + r) (left + d) ≡ cell (r * b2 + d)

@@ -97,7 +97,7 @@ module _ (lay : Layout) (c : Code) (F : Formed c) where
       let a = data_cell c d / c.n2 in
       let b = data_cell c d % c.n2 in
       let l = data-below c F d ld in
-      in-turned-cell lay c.n1 c.n2 s f (c.check_row k) (c.check_column k) (F.check-rows k lk) (F.check-columns k lk) t a b
+      in-turned-cell lay c.n1 c.n2 s f (c.check_row k) (c.check_column k) (F.check_rows k lk) (F.check_columns k lk) t a b
       (row_inside c (data_cell c d) l) (column-inside c (data_cell c d) l)
       ∙ ap (λ (e : Bool). xor (cells s a b) (t && e)) (no-data k d lk ld)
       ∙ ap (xor (cells s a b)) (and-false t)
@@ -127,11 +127,11 @@ module _ (lay : Layout) (c : Code) (F : Formed c) where
 
       go : TurnedAs y n s u → TurnedAs y (suc n) s (turned_in (bit y n) lay c.n1 c.n2 u (c.check_row n) (c.check_column n))
       go T = record {
-        form = in-turned-form lay c.n1 c.n2 u T.form (c.check_row n) (c.check_column n) (F.check-rows n l) (F.check-columns n l) (bit y n);
+        form = in-turned-form lay c.n1 c.n2 u T.form (c.check_row n) (c.check_column n) (F.check_rows n l) (F.check_columns n l) (bit y n);
         same = λ d ld. data-kept (bit y n) n u T.form l d ld ∙ T.same d ld;
         checks = λ k lk.
-            in-turned-cell lay c.n1 c.n2 u T.form (c.check_row n) (c.check_column n) (F.check-rows n l) (F.check-columns n l) (bit y n)
-            (c.check_row k) (c.check_column k) (F.check-rows k lk) (F.check-columns k lk)
+            in-turned-cell lay c.n1 c.n2 u T.form (c.check_row n) (c.check_column n) (F.check_rows n l) (F.check_columns n l) (bit y n)
+            (c.check_row k) (c.check_column k) (F.check_rows k lk) (F.check_columns k lk)
             ∙ ap₂ (λ (a b : Bool). xor a (bit y n && b)) (T.checks k lk) (same_check n k l lk)
             ∙ xor_assoc (check_cell c (cells s) k) (ltb k n && bit y k) (bit y n && eqb n k)
             ∙ ap (xor (check_cell c (cells s) k)) (digit-more n k y);

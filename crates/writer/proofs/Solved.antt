@@ -39,7 +39,7 @@ joint-value c F s v h ev eh =
 
 module _ (c : Code) (F : Formed c) (K : Conditions c) where
   few : c.rv + c.rh ≤ 64
-  few = omega (arith, F.rv-most, F.rh-most)
+  few = omega (arith, F.rv_most, F.rh_most)
 
   pub free-joints : free_from [] (joints_of c) ≡ true
   unfolding joints_of
@@ -54,7 +54,7 @@ module _ (c : Code) (F : Formed c) (K : Conditions c) where
 
   module _ (target : ℕ) (t : target < 2 ^ (c.rv + c.rh)) where
     word : target < 2 ^ 64
-    word = omega (arith, joint-word c.rv c.rh F.rv-most F.rh-most)
+    word = omega (arith, joint-word c.rv c.rh F.rv_most F.rh_most)
 
     spans-joints : spans (joints_of c) target ≡ true
     unfolding joints_of

@@ -24,7 +24,7 @@ header_of-h-requires c =
 pub first_different-k-requires : goal.first_different-k-requires
 first_different-k-requires c =
     let ready : let a = c.args in BothInForm a.plan.now a.first.now a.second.now = both_zero _ _ _ (checked-passes c.scans_checks-verdict.ensures c.if-verdict-ne0.false) in
-    let m = ready in m.first-form.size ∙ sym m.second-form.size
+    let m = ready in m.first_form.size ∙ sym m.second_form.size
 
 pub returns-then-k-second : goal.returns-then-k-second
 returns-then-k-second c =

@@ -23,7 +23,7 @@ pub joint_entry-requires : goal.joint_entry-requires
 joint_entry-requires c =
     let p = c.requires in
     let e = c.check_cell-cell.ensures.value in
-    record { framed = p.framed; formed = p.formed; i_lt_n1 = (rw e (p.formed.check-rows _ c.loop-k-test.true), rw e (p.formed.check-columns _ c.loop-k-test.true)) }
+    record { framed = p.framed; formed = p.formed; i_lt_n1 = (rw e (p.formed.check_rows _ c.loop-k-test.true), rw e (p.formed.check_columns _ c.loop-k-test.true)) }
 
 pub offset_bounds-joints-k : goal.offset_bounds-joints-k
 offset_bounds-joints-k c = omega arith
@@ -53,4 +53,4 @@ pub returns : goal.returns
 unfolding joints_of
 returns c =
     let e : c.args.h.rv + c.args.h.rh ≡ c.loop-k.k = omega arith in
-    record { size = c.loop-k.invariant.1; few = omega (arith, c.requires.framed.small.rv-most, c.requires.framed.small.rh-most); held = rw e c.loop-k.invariant.2 }
+    record { size = c.loop-k.invariant.1; few = omega (arith, c.requires.framed.small.rv_most, c.requires.framed.small.rh_most); held = rw e c.loop-k.invariant.2 }

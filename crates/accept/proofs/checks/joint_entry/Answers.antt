@@ -10,7 +10,7 @@ pub joined-requires : goal.joined-requires
 joined-requires c =
     let v = c.row_weight-v.ensures.below in
     let w = c.column_weight-w.ensures.below in
-    (c.requires.framed.small.rv-most, omega arith, omega arith)
+    (c.requires.framed.small.rv_most, omega arith, omega arith)
 
 pub returns : goal.returns
 returns c =

@@ -14,7 +14,7 @@ loop-i-init c =
 pub pairs_of-requires : goal.pairs_of-requires
 pairs_of-requires c =
     let f = c.requires.windows.1 in
-    record { windows = (c.requires.windows.0, record { some = f.some; few = f.few; step-most = f.step-most; here = c.loop-i-test.true }); rest_len = c.loop-i.invariant.0 }
+    record { windows = (c.requires.windows.0, record { some = f.some; few = f.few; step_most = f.step_most; here = c.loop-i-test.true }); rest_len = c.loop-i.invariant.0 }
 
 pub overflow_step-i : goal.overflow_step-i
 overflow_step-i c =

@@ -24,7 +24,7 @@ overflow_add-start c =
     omega (arith, window-in w c.loop-j.j c.loop-j-test.true, w.few)
 
 pub overflow_sub-start : goal.overflow_sub-start
-overflow_sub-start c = let l = c.requires.windows.1 in omega (arith, l.step-most)
+overflow_sub-start c = let l = c.requires.windows.1 in omega (arith, l.step_most)
 
 pub line_hit-requires : goal.line_hit-requires
 line_hit-requires c =
@@ -33,7 +33,7 @@ line_hit-requires c =
     let j = c.loop-j.j in
     let inside = window-in w j c.loop-j-test.true in
     let up = mul-le-mul_right c.args.step c.loop-j.invariant.0 in
-    record { from_le_last = (omega (arith, c.larger-from.ensures, l.step-most, l.floor-most, up, suc-mul c.args.i c.args.step), omega (arith, inside, l.step-most)); marked = c.requires.marked }
+    record { from_le_last = (omega (arith, c.larger-from.ensures, l.step_most, l.floor_most, up, suc-mul c.args.i c.args.step), omega (arith, inside, l.step_most)); marked = c.requires.marked }
 
 pub returns-then-line_hit : goal.returns-then-line_hit
 returns-then-line_hit c =

@@ -25,7 +25,7 @@ overflow_mul-i c =
 pub window_sums-n-requires : goal.window_sums-n-requires
 window_sums-n-requires c =
     let p = c.requires in
-    record { inside = window-in p.windows.0 c.args.i p.windows.1.here; small = p.windows.0.size-most; long = p.sums_len.0; wide = p.sums_len.1 }
+    record { inside = window-in p.windows.0 c.args.i p.windows.1.here; small = p.windows.0.size_most; long = p.sums_len.0; wide = p.sums_len.1 }
 
 pub returns-then-n-eq0 : goal.returns-then-n-eq0
 returns-then-n-eq0 c =
@@ -33,7 +33,7 @@ returns-then-n-eq0 c =
     let w = c.requires.windows.0 in
     let few = c.requires.windows.1 in
     sym (rows_self a.t few.some few.few (word_at a.words.now) (length a.words.now) a.step a.size a.count a.i w
-    few.step-most few.here
+    few.step_most few.here
     (c.window_sums-n.ensures.none c.if-n-eq0.true))
 
 pub slice_bounds-later-end-2 : goal.slice_bounds-later-end-2
@@ -45,7 +45,7 @@ slice_bounds-later-end-2 c =
 pub later-requires : goal.later-requires
 later-requires c =
     let few = c.requires.windows.1 in
-    let z = c.if-n-eq0.false in record { windows = (c.requires.windows.0, record { step-most = few.step-most; here = few.here; floor-most = omega arith }); marked = (c.window_sums-n.ensures.sums-of (omega arith)).marked }
+    let z = c.if-n-eq0.false in record { windows = (c.requires.windows.0, record { step_most = few.step_most; here = few.here; floor_most = omega arith }); marked = (c.window_sums-n.ensures.sums_of (omega arith)).marked }
 
 pub returns : goal.returns
 returns c =
@@ -57,7 +57,7 @@ returns c =
     let some : 1 ≤ c.window_sums-n.result = omega arith in
     c.later.ensures
     ∙ ap (λ (T : ℕ → Bool). in_row (line_clear a.t (word_at a.words.now) 0 a.step a.size T) a.i (a.i + 1) (a.count - (a.i + 1)) Clear)
-    (λ y x. (W.sums-of some).are x y)
+    (λ y x. (W.sums_of some).are x y)
     ∙ sym (rows_row a.t few.some few.few (word_at a.words.now) (length a.words.now) a.step a.size a.count a.i w
-    few.step-most few.here
+    few.step_most few.here
     (W.some some))

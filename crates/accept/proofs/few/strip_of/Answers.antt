@@ -36,7 +36,7 @@ later-requires c =
     let few = c.requires.windows.1 in record {
       windows = (
         as_long c.differ_rest.ensures.1.long c.requires.windows.0,
-        record { step-most = few.step-most; here = few.here; floor-most = omega arith },
+        record { step_most = few.step_most; here = few.here; floor_most = omega arith },
       );
       marked = c.only_zero-n.ensures.marked;
     }
@@ -46,5 +46,5 @@ returns c =
     let a = c.args in
     let few = c.requires.windows.1 in
     c.later.ensures
-    ∙ strip-row a.t few.some few.few a.words.now _ a.step a.size a.count a.i c.requires.windows.0 few.step-most few.here
+    ∙ strip-row a.t few.some few.few a.words.now _ a.step a.size a.count a.i c.requires.windows.0 few.step_most few.here
     c.differ_rest.ensures.1 _ c.only_zero-n.ensures.are

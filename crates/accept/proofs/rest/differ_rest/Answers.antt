@@ -31,7 +31,7 @@ overflow_add-k-in-loop-k c = let n = c.smaller-n.ensures in omega arith
 pub loop-k-smaller : goal.loop-k-smaller
 loop-k-smaller c =
     let n = c.smaller-n.ensures in
-    let z = c.requires.0.size-pos in
+    let z = c.requires.0.size_pos in
     omega arith
 
 pub loop-k-preserved : goal.loop-k-preserved

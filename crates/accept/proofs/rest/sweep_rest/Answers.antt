@@ -16,7 +16,7 @@ offset_bounds-words-first c = omega arith
 pub keep-base-requires : goal.keep-base-requires
 keep-base-requires c =
     let n = part_length c.args.first (c.args.first + c.args.size) c.args.words.now (omega arith) c.requires.0.inside in
-    omega (arith, n, c.requires.0.size-most)
+    omega (arith, n, c.requires.0.size_most)
 
 pub overflow_add-k : goal.overflow_add-k
 overflow_add-k c = omega arith
@@ -28,13 +28,13 @@ pub slice_bounds-members-end : goal.slice_bounds-members-end
 slice_bounds-members-end c =
     let n = part_length c.args.first (c.args.first + c.args.size) c.args.words.now (omega arith) c.requires.0.inside in
     let k = c.keep-base.ensures in
-    omega (arith, kept-most k, n, k.size, c.requires.0.size-most)
+    omega (arith, kept-most k, n, k.size, c.requires.0.size_most)
 
 pub slice_bounds-sweep-end : goal.slice_bounds-sweep-end
 slice_bounds-sweep-end c =
     let n = part_length c.args.first (c.args.first + c.args.size) c.args.words.now (omega arith) c.requires.0.inside in
     let k = c.keep-base.ensures in
-    sym (length-take-le _ _ (omega (arith, kept-most k, n, k.size, c.requires.0.size-most)))
+    sym (length-take-le _ _ (omega (arith, kept-most k, n, k.size, c.requires.0.size_most)))
 
 pub offset_bounds-rest-k : goal.offset_bounds-rest-k
 offset_bounds-rest-k c = omega arith

@@ -9,7 +9,7 @@ pub prepare-taken-requires : goal.prepare-taken-requires
 prepare-taken-requires c =
     let p = c.requires in
     let w = p.0 in
-    (record { size-pos = w.size-pos; size-most = w.size-most; inside = omega (arith, window-in w 0 w.some); few = w.few }, p.1)
+    (record { size_pos = w.size_pos; size_most = w.size_most; inside = omega (arith, window-in w 0 w.some); few = w.few }, p.1)
 
 pub start_of-j-requires : goal.start_of-j-requires
 start_of-j-requires c = omega arith
@@ -26,7 +26,7 @@ pub pair_free-requires : goal.pair_free-requires
 pair_free-requires c =
     let w = c.requires.0 in
     let n = c.prepare-taken.ensures.long in
-    (w.size-most, omega arith, omega (arith, window-in w c.loop-j.j c.loop-j-test.true, n))
+    (w.size_most, omega arith, omega (arith, window-in w c.loop-j.j c.loop-j-test.true, n))
 
 pub returns-then-not-pair_free : goal.returns-then-not-pair_free
 returns-then-not-pair_free c =

@@ -50,7 +50,7 @@ pair_free-requires c =
     let w = c.requires.0 in
     let l = c.loop-j in
     let n = c.prepare-taken.ensures.long in
-    (w.size-most, mul-le-mul_right c.args.step l.invariant.0, omega (arith, window-in w l.j c.loop-j-test.true, n))
+    (w.size_most, mul-le-mul_right c.args.step l.invariant.0, omega (arith, window-in w l.j c.loop-j-test.true, n))
 
 pub overflow_step-j : goal.overflow_step-j
 overflow_step-j c = omega arith

@@ -21,7 +21,7 @@ unfolding code_of
 sheet_unused-requires c =
     let ready : let a = c.args in SheetFits ByRow a.plan.now a.sheet.now = sheet-zero ByRow _ _ (checked-passes c.sheet_checks-checked.ensures c.if-checked-ne0.false) in
     let F = ready in
-    rw c.header_of.ensures (record { small = F.accepted.framed.small; sheet_len = F.sheet-size })
+    rw c.header_of.ensures (record { small = F.accepted.framed.small; sheet_len = F.sheet_len })
 
 pub returns : goal.returns
 unfolding code_of form_checks

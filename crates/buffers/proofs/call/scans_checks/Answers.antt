@@ -20,7 +20,7 @@ unfolding code_of
 scans_unused-requires c =
     let ready : let a = c.args in ScansFit a.plan.now a.first.now a.second.now = scans-fit _ _ _ (checked-passes c.scan_lengths-lengths.ensures c.if-lengths-ne0.false) in
     let F = ready in
-    rw c.header_of.ensures (record { small = F.accepted.framed.small; first_len = F.first-size; second_len = F.second-size })
+    rw c.header_of.ensures (record { small = F.accepted.framed.small; first_len = F.first_size; second_len = F.second_size })
 
 pub returns : goal.returns
 unfolding code_of scans_checks

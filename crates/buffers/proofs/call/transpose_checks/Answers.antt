@@ -27,7 +27,7 @@ unfolding code_of
 sheet_unused-unused-requires c =
     let ready : let a = c.args in SheetFits a.lay a.plan.now a.source.now = sheet-zero _ _ _ (checked-passes c.sheet_checks-checked.ensures c.if-checked-ne0.false) in
     let F = ready in
-    rw c.header_of-h.ensures (record { small = F.accepted.framed.small; sheet_len = F.sheet-size })
+    rw c.header_of-h.ensures (record { small = F.accepted.framed.small; sheet_len = F.sheet_len })
 
 pub returns : goal.returns
 unfolding code_of transpose_checks

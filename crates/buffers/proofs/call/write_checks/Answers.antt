@@ -22,7 +22,7 @@ unfolding code_of data_size
 data_unused-requires c =
     let ready : let a = c.args in Lengths a.lay a.plan.now a.sheet.now a.bits.now = length-zero _ _ _ _ (checked-passes c.length_checks-lengths.ensures c.if-lengths-ne0.false) in
     let L = ready in
-    rw c.header_of.ensures (record { small = L.accepted.framed.small; rh_bound = checks-fit _ L.accepted.formed; bits_len = L.bits-size })
+    rw c.header_of.ensures (record { small = L.accepted.framed.small; rh_bound = checks-fit _ L.accepted.formed; bits_len = L.bits_size })
 
 pub returns : goal.returns
 unfolding code_of data_size write_checks

@@ -6,5 +6,5 @@ use Rattle.buffers.proofs.lent.data_size.Goals as goal
 
 pub overflow_mul-result : goal.overflow_mul-result
 overflow_mul-result c =
-    let m : c.args.h.n1 * c.args.h.n2 ≤ 512 * 698 = mul-le-mul c.requires.small.n1-most c.requires.small.n2-most in
+    let m : c.args.h.n1 * c.args.h.n2 ≤ 512 * 698 = mul-le-mul c.requires.small.n1_most c.requires.small.n2_most in
     omega arith

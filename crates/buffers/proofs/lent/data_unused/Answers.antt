@@ -7,7 +7,7 @@ use Rattle.buffers.proofs.lent.data_unused.Goals as goal
 
 pub unused_verdict-requires : goal.unused_verdict-requires
 unused_verdict-requires c =
-    let m = mul-le-mul c.requires.small.n1-most c.requires.small.n2-most in
+    let m = mul-le-mul c.requires.small.n1_most c.requires.small.n2_most in
     record { n1_bound = (omega arith, omega (arith, c.data_size.ensures)); s_len = rw c.data_size.ensures (c.requires.bits_len ∙ sym (row-sheet _)) }
 
 pub returns : goal.returns

@@ -5,4 +5,4 @@ pub returns : goal.returns
 returns c = c.bytes_in.ensures
 
 pub bytes_in-requires : goal.bytes_in-requires
-bytes_in-requires c = let s = c.requires in record { n1-most = s.n1-most; n2-most = s.n2-most }
+bytes_in-requires c = let s = c.requires in record { n1_most = s.n1_most; n2_most = s.n2_most }

@@ -26,12 +26,12 @@ pub overflow_mul-result : goal.overflow_mul-result
 unfolding row_bytes
 overflow_mul-result c =
     let p = c.requires in
-    let w : c.row_bytes.result ≤ 88 = omega (arith, c.row_bytes.ensures, p.n2-most) in
-    omega (arith, mul-le-mul p.n1-most w)
+    let w : c.row_bytes.result ≤ 88 = omega (arith, c.row_bytes.ensures, p.n2_most) in
+    omega (arith, mul-le-mul p.n1_most w)
 
 pub overflow_mul-result-in-ByColumn : goal.overflow_mul-result-in-ByColumn
 unfolding row_bytes
 overflow_mul-result-in-ByColumn c =
     let p = c.requires in
-    let w : c.row_bytes-in-ByColumn.result ≤ 64 = omega (arith, c.row_bytes-in-ByColumn.ensures, p.n1-most) in
-    omega (arith, mul-le-mul p.n2-most w)
+    let w : c.row_bytes-in-ByColumn.result ≤ 64 = omega (arith, c.row_bytes-in-ByColumn.ensures, p.n1_most) in
+    omega (arith, mul-le-mul p.n2_most w)

@@ -14,11 +14,11 @@ cell-requires c =
     let p = c.requires in
     let e = rw c.in-ByRow.is at p.s_len in
     let b = byte_inside _ _ p.i_lt_n1.1 _ _ p.i_lt_n1.0 in
-    (omega (arith, p.sizes.n2-most), omega arith)
+    (omega (arith, p.sizes.n2_most), omega arith)
 
 pub cell-requires-in-ByColumn : goal.cell-requires-in-ByColumn
 cell-requires-in-ByColumn c =
     let p = c.requires in
     let e = rw c.in-ByColumn.is at p.s_len in
     let b = byte_inside _ _ p.i_lt_n1.0 _ _ p.i_lt_n1.1 in
-    (omega (arith, p.sizes.n1-most), omega arith)
+    (omega (arith, p.sizes.n1_most), omega arith)

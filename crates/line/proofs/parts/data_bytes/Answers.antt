@@ -15,14 +15,14 @@ pub returns-then-h-gt512 : goal.returns-then-h-gt512
 returns-then-h-gt512 c =
     record {
       most = omega arith;
-      right = λ A. let e = ap (λ (h : Header). h.n1) c.header_of-h.ensures in absurd (omega (arith, A.framed.small.n1-most));
+      right = λ A. let e = ap (λ (h : Header). h.n1) c.header_of-h.ensures in absurd (omega (arith, A.framed.small.n1_most));
     }
 
 pub returns-then-h-gt698 : goal.returns-then-h-gt698
 returns-then-h-gt698 c =
     record {
       most = omega arith;
-      right = λ A. let e = ap (λ (h : Header). h.n2) c.header_of-h.ensures in absurd (omega (arith, A.framed.small.n2-most));
+      right = λ A. let e = ap (λ (h : Header). h.n2) c.header_of-h.ensures in absurd (omega (arith, A.framed.small.n2_most));
     }
 
 pub returns-then-h-gt32 : goal.returns-then-h-gt32
@@ -31,7 +31,7 @@ returns-then-h-gt32 c =
       most = omega arith;
       right = λ A.
           let e = ap (λ (h : Header). h.rv) c.header_of-h.ensures in
-          absurd (omega (arith, A.framed.small.rv-most));
+          absurd (omega (arith, A.framed.small.rv_most));
     }
 
 pub returns-then-h-gt32-2 : goal.returns-then-h-gt32-2
@@ -40,7 +40,7 @@ returns-then-h-gt32-2 c =
       most = omega arith;
       right = λ A.
           let e = ap (λ (h : Header). h.rh) c.header_of-h.ensures in
-          absurd (omega (arith, A.framed.small.rh-most));
+          absurd (omega (arith, A.framed.small.rh_most));
     }
 
 pub overflow_mul-cells : goal.overflow_mul-cells

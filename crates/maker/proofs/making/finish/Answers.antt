@@ -18,7 +18,7 @@ pub encode-requires : goal.encode-requires
 encode-requires c =
     let p = c.requires in
     let t = p.tables in
-    record { small = p.small; h_value = p.h_value; plan_len = p.plan_len; rows_len = t.rows-size; columns_len = t.columns-size; cells_len = c.take_cells-taken.ensures.places-size }
+    record { small = p.small; h_value = p.h_value; plan_len = p.plan_len; rows_len = t.rows_size; columns_len = t.columns_size; cells_len = c.take_cells-taken.ensures.places_size }
 
 pub returns : goal.returns
 returns c =

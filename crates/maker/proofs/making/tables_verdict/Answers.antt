@@ -7,7 +7,7 @@ use Rattle.maker.proofs.making.tables_verdict.Goals as goal
 pub table_verdict-first-requires : goal.table_verdict-first-requires
 table_verdict-first-requires c =
     let p = c.requires in
-    record { small = p.small; words_len = (p.tables.rows-size, refl); entries32 = p.tables.rows-below }
+    record { small = p.small; words_len = (p.tables.rows_size, refl); entries32 = p.tables.rows_below }
 
 pub returns-then-first-ne0 : goal.returns-then-first-ne0
 returns-then-first-ne0 c =
@@ -17,7 +17,7 @@ returns-then-first-ne0 c =
 pub table_verdict-requires : goal.table_verdict-requires
 table_verdict-requires c =
     let p = c.requires in
-    record { small = p.small; words_len = (p.tables.columns-size, search rules); entries32 = p.tables.columns-below }
+    record { small = p.small; words_len = (p.tables.columns_size, search rules); entries32 = p.tables.columns_below }
 
 pub returns : goal.returns
 returns c =

@@ -39,7 +39,7 @@ bad_polynomial-requires c =
     let sizes : c.sizes_verdict-sizes.result ≡ sizes_verdict (numbers_of c.args.g) = c.sizes_verdict-sizes.ensures ∙ ap sizes_verdict c.numbers-h.ensures in
     let sized : (sizes_verdict (numbers_of c.args.g)).number ≡ 0 = same-zero sizes c.if-sizes-ne0.false in
     let small : Small (header_for c.args.g) = sizes-good c.args.g sized in
-    small.rv-most
+    small.rv_most
 
 pub bad_polynomial-requires-2 : goal.bad_polynomial-requires-2
 unfolding ruled
@@ -47,7 +47,7 @@ bad_polynomial-requires-2 c =
     let sizes : c.sizes_verdict-sizes.result ≡ sizes_verdict (numbers_of c.args.g) = c.sizes_verdict-sizes.ensures ∙ ap sizes_verdict c.numbers-h.ensures in
     let sized : (sizes_verdict (numbers_of c.args.g)).number ≡ 0 = same-zero sizes c.if-sizes-ne0.false in
     let small : Small (header_for c.args.g) = sizes-good c.args.g sized in
-    small.rh-most
+    small.rh_most
 
 pub returns : goal.returns
 unfolding polynomials_verdict

@@ -8,7 +8,7 @@ use Rattle.maker.proofs.Cells.{empty-size, taken_more, taken-end}
 use Rattle.maker.proofs.taking.take_cells.Goals as goal
 
 pub overflow_add-wanted : goal.overflow_add-wanted
-overflow_add-wanted c = let p = c.requires.small in omega (arith, p.rv-most, p.rh-most)
+overflow_add-wanted c = let p = c.requires.small in omega (arith, p.rv_most, p.rh_most)
 
 pub empty_basis-requires : goal.empty_basis-requires
 empty_basis-requires c = tt
@@ -24,12 +24,12 @@ take_row-taken-requires c =
 pub overflow_add-i : goal.overflow_add-i
 overflow_add-i c =
     let row : c.loop-i.i < c.args.h.n1 = (taken_more c.loop-i.i c.args.h.n1 c.loop-i.taken.count _ c.loop-i-test.true).0 in
-    omega (arith, row, c.requires.small.n1-most)
+    omega (arith, row, c.requires.small.n1_most)
 
 pub loop-i-smaller : goal.loop-i-smaller
 loop-i-smaller c =
     let row : c.loop-i.i < c.args.h.n1 = (taken_more c.loop-i.i c.args.h.n1 c.loop-i.taken.count _ c.loop-i-test.true).0 in
-    omega (arith, row, c.requires.small.n1-most)
+    omega (arith, row, c.requires.small.n1_most)
 
 pub loop-i-preserved : goal.loop-i-preserved
 loop-i-preserved c =

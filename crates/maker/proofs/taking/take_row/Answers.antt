@@ -9,13 +9,13 @@ use Rattle.maker.proofs.Cells.{cell-joint, taken_step, taken-most, taken_more, t
 use Rattle.maker.proofs.taking.take_row.Goals as goal
 
 pub overflow_add-wanted : goal.overflow_add-wanted
-overflow_add-wanted c = let p = c.requires.small in omega (arith, p.rv-most, p.rh-most)
+overflow_add-wanted c = let p = c.requires.small in omega (arith, p.rv_most, p.rh_most)
 
 pub overflow_mul-first : goal.overflow_mul-first
 overflow_mul-first c =
     let p = c.requires.small in
-    let l : c.args.i ≤ 512 = omega (arith, c.requires.i_lt_n1, p.n1-most) in
-    omega (arith, mul-le-mul l p.n2-most)
+    let l : c.args.i ≤ 512 = omega (arith, c.requires.i_lt_n1, p.n1_most) in
+    omega (arith, mul-le-mul l p.n2_most)
 
 pub loop-j-init : goal.loop-j-init
 loop-j-init c = (omega arith, sym (zero-mod _), rw (add-zero (c.args.i * c.args.h.n2)) c.requires.held_to)
@@ -30,13 +30,13 @@ pub slice_bounds-words-end : goal.slice_bounds-words-end
 slice_bounds-words-end c =
     let l = c.loop-j in
     let p = c.requires.small in
-    omega (arith, l.invariant.2.words_size, taken-most _ _ _ _ _ _ l.invariant.2, p.rv-most, p.rh-most)
+    omega (arith, l.invariant.2.words_size, taken-most _ _ _ _ _ _ l.invariant.2, p.rv_most, p.rh_most)
 
 pub slice_bounds-sweep-end : goal.slice_bounds-sweep-end
 slice_bounds-sweep-end c =
     let l = c.loop-j in
     let p = c.requires.small in
-    sym (length-take-le _ _ (omega (arith, l.invariant.2.words_size, taken-most _ _ _ _ _ _ l.invariant.2, p.rv-most, p.rh-most)))
+    sym (length-take-le _ _ (omega (arith, l.invariant.2.words_size, taken-most _ _ _ _ _ _ l.invariant.2, p.rv_most, p.rh_most)))
 
 pub sweep-left-requires : goal.sweep-left-requires
 sweep-left-requires c = tt
@@ -45,37 +45,37 @@ pub offset_bounds-words-count : goal.offset_bounds-words-count
 offset_bounds-words-count c =
     let below : (c.loop-j.j < c.args.h.n2) × (c.loop-j.count < 64) = let p = c.requires.small in
     let t = taken_more c.loop-j.j c.args.h.n2 c.loop-j.count _ c.loop-j-test.true in
-    (t.0, omega (arith, t.1, p.rv-most, p.rh-most)) in
+    (t.0, omega (arith, t.1, p.rv_most, p.rh_most)) in
     omega (arith, below.1)
 
 pub bounds-words-count : goal.bounds-words-count
 bounds-words-count c =
     let below : (c.loop-j.j < c.args.h.n2) × (c.loop-j.count < 64) = let p = c.requires.small in
     let t = taken_more c.loop-j.j c.args.h.n2 c.loop-j.count _ c.loop-j-test.true in
-    (t.0, omega (arith, t.1, p.rv-most, p.rh-most)) in
+    (t.0, omega (arith, t.1, p.rv_most, p.rh_most)) in
     omega (arith, below.1)
 
 pub overflow_add-cells : goal.overflow_add-cells
 overflow_add-cells c =
     let below : (c.loop-j.j < c.args.h.n2) × (c.loop-j.count < 64) = let p = c.requires.small in
     let t = taken_more c.loop-j.j c.args.h.n2 c.loop-j.count _ c.loop-j-test.true in
-    (t.0, omega (arith, t.1, p.rv-most, p.rh-most)) in
+    (t.0, omega (arith, t.1, p.rv_most, p.rh_most)) in
     let p = c.requires.small in
-    let m : c.args.i ≤ 512 = omega (arith, c.requires.i_lt_n1, p.n1-most) in
-    omega (arith, mul-le-mul m p.n2-most, below.0, p.n2-most)
+    let m : c.args.i ≤ 512 = omega (arith, c.requires.i_lt_n1, p.n1_most) in
+    omega (arith, mul-le-mul m p.n2_most, below.0, p.n2_most)
 
 pub offset_bounds-cells-count : goal.offset_bounds-cells-count
 offset_bounds-cells-count c =
     let below : (c.loop-j.j < c.args.h.n2) × (c.loop-j.count < 64) = let p = c.requires.small in
     let t = taken_more c.loop-j.j c.args.h.n2 c.loop-j.count _ c.loop-j-test.true in
-    (t.0, omega (arith, t.1, p.rv-most, p.rh-most)) in
+    (t.0, omega (arith, t.1, p.rv_most, p.rh_most)) in
     omega (arith, below.1)
 
 pub bounds-cells-count : goal.bounds-cells-count
 bounds-cells-count c =
     let below : (c.loop-j.j < c.args.h.n2) × (c.loop-j.count < 64) = let p = c.requires.small in
     let t = taken_more c.loop-j.j c.args.h.n2 c.loop-j.count _ c.loop-j-test.true in
-    (t.0, omega (arith, t.1, p.rv-most, p.rh-most)) in
+    (t.0, omega (arith, t.1, p.rv_most, p.rh_most)) in
     omega (arith, below.1)
 
 pub more_taken-count-requires : goal.more_taken-count-requires
@@ -85,31 +85,31 @@ pub overflow_add-count : goal.overflow_add-count
 overflow_add-count c =
     let below : (c.loop-j.j < c.args.h.n2) × (c.loop-j.count < 64) = let p = c.requires.small in
     let t = taken_more c.loop-j.j c.args.h.n2 c.loop-j.count _ c.loop-j-test.true in
-    (t.0, omega (arith, t.1, p.rv-most, p.rh-most)) in
+    (t.0, omega (arith, t.1, p.rv_most, p.rh_most)) in
     omega (arith, below.1, c.more_taken-count.ensures.1)
 
 pub after-along-requires : goal.after-along-requires
-after-along-requires c = rw c.loop-j.invariant.1 (mod-lt c.loop-j.j c.requires.small.b2-pos)
+after-along-requires c = rw c.loop-j.invariant.1 (mod-lt c.loop-j.j c.requires.small.b2_pos)
 
 pub overflow_add-j : goal.overflow_add-j
 overflow_add-j c =
     let below : (c.loop-j.j < c.args.h.n2) × (c.loop-j.count < 64) = let p = c.requires.small in
     let t = taken_more c.loop-j.j c.args.h.n2 c.loop-j.count _ c.loop-j-test.true in
-    (t.0, omega (arith, t.1, p.rv-most, p.rh-most)) in
+    (t.0, omega (arith, t.1, p.rv_most, p.rh_most)) in
     omega (arith, below.0)
 
 pub loop-j-smaller : goal.loop-j-smaller
 loop-j-smaller c =
     let below : (c.loop-j.j < c.args.h.n2) × (c.loop-j.count < 64) = let p = c.requires.small in
     let t = taken_more c.loop-j.j c.args.h.n2 c.loop-j.count _ c.loop-j-test.true in
-    (t.0, omega (arith, t.1, p.rv-most, p.rh-most)) in
+    (t.0, omega (arith, t.1, p.rv_most, p.rh_most)) in
     omega (arith, below.0)
 
 pub loop-j-preserved : goal.loop-j-preserved
 loop-j-preserved c =
     let below : (c.loop-j.j < c.args.h.n2) × (c.loop-j.count < 64) = let p = c.requires.small in
     let t = taken_more c.loop-j.j c.args.h.n2 c.loop-j.count _ c.loop-j-test.true in
-    (t.0, omega (arith, t.1, p.rv-most, p.rh-most)) in
+    (t.0, omega (arith, t.1, p.rv_most, p.rh_most)) in
     let l = c.loop-j in
     let a = c.args in
     let t = below in

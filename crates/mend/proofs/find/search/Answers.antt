@@ -4,7 +4,7 @@ use Rattle.mend.proofs.Windows.{search-starts, search-misses, search-finds, sear
 use Rattle.mend.proofs.find.search.Goals as goal
 
 pub overflow_sub-count : goal.overflow_sub-count
-overflow_sub-count c = c.requires.accepted_with.framed.small.n1-least
+overflow_sub-count c = c.requires.accepted_with.framed.small.n1_least
 
 pub overflow_add-count : goal.overflow_add-count
 overflow_add-count c = let S = c.requires.accepted_with.framed.small in omega arith

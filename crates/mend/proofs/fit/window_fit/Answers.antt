@@ -17,7 +17,7 @@ slice_bounds-few_fit-end c =
 pub few_fit-requires : goal.few_fit-requires
 few_fit-requires c =
     let few : c.args.h.b1 * c.args.h.b2 ≤ 16 = box-size (small-burst c.requires.accepted_with.framed.small) in
-    let t = c.requires.accepted_with.framed.small.t-most in
+    let t = c.requires.accepted_with.framed.small.t_most in
     let z = c.if-h-ne0.true in
     let size = length-take-le (c.args.h.b1 * c.args.h.b2) c.gather-words.result
     (omega (arith, few, c.gather-words.ensures.size)) in

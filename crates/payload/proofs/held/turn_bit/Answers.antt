@@ -47,7 +47,7 @@ bit-d-requires c =
 pub overflow_mul-h : goal.overflow_mul-h
 overflow_mul-h c =
     let s = c.requires.framed.small in
-    omega (arith, sheet-cells s.n1-most s.n2-most)
+    omega (arith, sheet-cells s.n1_most s.n2_most)
 
 pub overflow_sub-h : goal.overflow_sub-h
 overflow_sub-h c = checks-fit _ c.requires.formed
@@ -59,7 +59,7 @@ turn-requires c =
     let s = p.framed.small in
     let l = held_below _ p.formed _ _ p.i_lt_n1.0 p.i_lt_n1.1 _ _ c.checks_before-check.ensures c.next_check.ensures
     c.if-next_check-t.false in
-    (omega (arith, sheet-cells s.n1-most s.n2-most), place_inside _ _ _ p.bits_len (rw (c.bit-d.ensures, c.row_ends-ends.ensures) l))
+    (omega (arith, sheet-cells s.n1_most s.n2_most), place_inside _ _ _ p.bits_len (rw (c.bit-d.ensures, c.row_ends-ends.ensures) l))
 
 pub returns : goal.returns
 unfolding cell_number data_size

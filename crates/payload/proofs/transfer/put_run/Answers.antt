@@ -18,7 +18,7 @@ loop-j-preserved c =
 pub overflow_add-at : goal.overflow_add-at
 overflow_add-at c =
     let p = c.requires in
-    omega (arith, p.room c.loop-j.j (omega arith), p.ends-most)
+    omega (arith, p.room c.loop-j.j (omega arith), p.ends_most)
 
 pub bit-requires : goal.bit-requires
 bit-requires c =
@@ -29,18 +29,18 @@ pub cell-dark-requires : goal.cell-dark-requires
 cell-dark-requires c =
     let p = c.requires in
     let e : c.bit.result ≡ bit_at c.args.at c.loop-j.j = c.bit.ensures in
-    rw e (p.k-most, p.bit_in _ (omega arith))
+    rw e (p.k_most, p.bit_in _ (omega arith))
 
 pub overflow_add-at-in-loop-j : goal.overflow_add-at-in-loop-j
 overflow_add-at-in-loop-j c =
     let p = c.requires in
-    omega (arith, p.column-most, p.sizes.n2-most)
+    omega (arith, p.column_most, p.sizes.n2_most)
 
 pub turn_in-requires : goal.turn_in-requires
 turn_in-requires c =
     let p = c.requires in
     let n = ap length c.loop-j.invariant.1 ∙ put-length _ _ _ _ _ _ _ _ in
-    record { sizes = p.sizes; s_len = n ∙ p.sheet-size; i_lt_n1 = (p.row_below, omega (arith, p.column-most)) }
+    record { sizes = p.sizes; s_len = n ∙ p.sheet_len; i_lt_n1 = (p.row_below, omega (arith, p.column_most)) }
 
 pub shape_of-sheet : goal.shape_of-sheet
 shape_of-sheet c = ap length c.loop-j.invariant.1 ∙ put-length _ _ _ _ _ _ _ _

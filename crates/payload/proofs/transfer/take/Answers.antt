@@ -10,7 +10,7 @@ use Rattle.payload.proofs.Progress.{take-first, take_step, take_all}
 use Rattle.payload.proofs.transfer.take.Goals as goal
 
 pub overflow_mul-k : goal.overflow_mul-k
-overflow_mul-k c = let s = c.requires.framed.small in omega (arith, sheet-cells s.n1-most s.n2-most)
+overflow_mul-k c = let s = c.requires.framed.small in omega (arith, sheet-cells s.n1_most s.n2_most)
 
 pub overflow_add-k : goal.overflow_add-k
 overflow_add-k c = omega arith
@@ -39,7 +39,7 @@ pub run-len-requires : goal.run-len-requires
 run-len-requires c =
     let pre = c.requires in
     let v = c.loop-at.invariant in
-    (at_ahead _ pre.formed _ v.2 (omega arith), v.2.column-most)
+    (at_ahead _ pre.formed _ v.2 (omega arith), v.2.column_most)
 
 pub take_run-requires : goal.take_run-requires
 take_run-requires c =

@@ -19,17 +19,17 @@ loop-j-preserved c =
 pub overflow_add-at : goal.overflow_add-at
 overflow_add-at c =
     let p = c.requires in
-    omega (arith, p.column-most, p.sizes.n2-most)
+    omega (arith, p.column_most, p.sizes.n2_most)
 
 pub cell_in-dark-requires : goal.cell_in-dark-requires
 cell_in-dark-requires c =
     let p = c.requires in
-    record { sizes = p.sizes; s_len = p.sheet-size; i_lt_n1 = (p.row_below, omega (arith, p.column-most)) }
+    record { sizes = p.sizes; s_len = p.sheet_len; i_lt_n1 = (p.row_below, omega (arith, p.column_most)) }
 
 pub overflow_add-at-in-loop-j : goal.overflow_add-at-in-loop-j
 overflow_add-at-in-loop-j c =
     let p = c.requires in
-    omega (arith, p.room c.loop-j.j (omega arith), p.ends-most)
+    omega (arith, p.room c.loop-j.j (omega arith), p.ends_most)
 
 pub bit-requires : goal.bit-requires
 bit-requires c =
@@ -41,7 +41,7 @@ turn_if-requires c =
     let p = c.requires in
     let n = ap length c.loop-j.invariant.1 ∙ take-length _ _ _ _ _ _ _ _ in
     let e : c.bit.result ≡ bit_at c.args.at c.loop-j.j = c.bit.ensures in
-    rw (n, e) (p.k-most, p.bit_in _ (omega arith))
+    rw (n, e) (p.k_most, p.bit_in _ (omega arith))
 
 pub shape_of-bits : goal.shape_of-bits
 shape_of-bits c = ap length c.loop-j.invariant.1 ∙ take-length _ _ _ _ _ _ _ _

@@ -7,11 +7,11 @@ use Rattle.plan.proofs.view.check_cell_of.Goals as goal
 pub returns : goal.returns
 returns c =
     let a = c.args in
-    let e = c.requires.framed.checks-at in
+    let e = c.requires.framed.checks_at in
     let row : c.u16_at-row.result ≡ check_row_at a.plan.now a.h a.k = rw e at c.u16_at-row.ensures.value in
     let column : c.u16_at-column.result ≡ check_column_at a.plan.now a.h a.k = rw e at c.u16_at-column.ensures.value in
     record {
       value = ap₂ (λ (i j : ℕ). record { row = i; column = j }) row column;
       row_below = c.u16_at-row.ensures.below;
-      column-below = c.u16_at-column.ensures.below;
+      column_below = c.u16_at-column.ensures.below;
     }

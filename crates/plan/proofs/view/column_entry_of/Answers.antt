@@ -2,4 +2,4 @@
 use Rattle.plan.proofs.view.column_entry_of.Goals as goal
 
 pub returns : goal.returns
-returns c = rw c.requires.framed.columns-at at c.u32_at.ensures
+returns c = rw c.requires.framed.columns_from at c.u32_at.ensures

@@ -9,7 +9,7 @@ use Rattle.position.proofs.Before.{next_here, next_past}
 use Rattle.position.proofs.cursor.next_check.Goals as goal
 
 pub overflow_mul-result : goal.overflow_mul-result
-overflow_mul-result c = let s = c.requires.framed.small in omega (arith, sheet-cells s.n1-most s.n2-most)
+overflow_mul-result c = let s = c.requires.framed.small in omega (arith, sheet-cells s.n1_most s.n2_most)
 
 pub returns-then-q-h : goal.returns-then-q-h
 returns-then-q-h c = sym (next_past _ _ (omega arith))

@@ -15,14 +15,14 @@ overflow_add-at c =
 pub overflow_add-result : goal.overflow_add-result
 overflow_add-result c =
     let p = c.requires in
-    let m = sheet-cells p.framed.small.n1-most p.framed.small.n2-most in
+    let m = sheet-cells p.framed.small.n1_most p.framed.small.n2_most in
     let d = past-most _ p.formed _ p.at p.row_lt_n1 _ p.len_value in
     omega arith
 
 pub overflow_add-result-then-at-len-2 : goal.overflow_add-result-then-at-len-2
 overflow_add-result-then-at-len-2 c =
     let p = c.requires in
-    let m = sheet-cells p.framed.small.n1-most p.framed.small.n2-most in
+    let m = sheet-cells p.framed.small.n1_most p.framed.small.n2_most in
     let d = place-most _ p.formed _ p.at p.row_lt_n1 _ p.len_value in
     omega arith
 
@@ -46,7 +46,7 @@ overflow_add-check c =
 pub overflow_add-result-2 : goal.overflow_add-result-2
 overflow_add-result-2 c =
     let p = c.requires in
-    let m = sheet-cells p.framed.small.n1-most p.framed.small.n2-most in
+    let m = sheet-cells p.framed.small.n1_most p.framed.small.n2_most in
     let ne : c.args.at.column + c.args.len ≡ c.args.h.n2 → ⊥ = c.if-at-len.false in
     let d = at_next _ p.formed _ p.at p.row_lt_n1 _ p.len_value ne in
     let e = past-most _ p.formed _ p.at p.row_lt_n1 _ p.len_value in
@@ -67,7 +67,7 @@ overflow_add-result-4 c =
 pub overflow_add-result-5 : goal.overflow_add-result-5
 overflow_add-result-5 c =
     let p = c.requires in
-    let m = sheet-cells p.framed.small.n1-most p.framed.small.n2-most in
+    let m = sheet-cells p.framed.small.n1_most p.framed.small.n2_most in
     let d = place-most _ p.formed _ p.at p.row_lt_n1 _ p.len_value in
     omega arith
 

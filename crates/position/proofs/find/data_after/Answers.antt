@@ -25,7 +25,7 @@ loop-q-preserved c = up-to-next _ _ _ _ _ c.loop-q.invariant (omega arith) c.nex
 pub overflow_add-result : goal.overflow_add-result
 overflow_add-result c =
     let p = c.requires in
-    omega (arith, count_most _ p.formed _ p.count_bound, c.loop-q.invariant.most, p.framed.small.rv-most, p.framed.small.rh-most)
+    omega (arith, count_most _ p.formed _ p.count_bound, c.loop-q.invariant.most, p.framed.small.rv_most, p.framed.small.rh_most)
 
 pub returns : goal.returns
 returns c =

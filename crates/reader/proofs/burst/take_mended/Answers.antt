@@ -25,16 +25,16 @@ pub overflow_add-top : goal.overflow_add-top
 overflow_add-top c =
     let p = c.requires in
     let F = p.accepted_with.formed in
-    let l = digit-row _ _ _ _ _ _ F.b2-pos (burst-on ByRow _ F _ p.right_form _ _ _ p.fact) c.loop-k.k (omega arith) in
-    let m = F.n1-most in
+    let l = digit-row _ _ _ _ _ _ F.b2_pos (burst-on ByRow _ F _ p.right_form _ _ _ p.fact) c.loop-k.k (omega arith) in
+    let m = F.n1_most in
     omega arith
 
 pub overflow_add-left : goal.overflow_add-left
 overflow_add-left c =
     let p = c.requires in
     let F = p.accepted_with.formed in
-    let l = digit-column _ _ _ _ _ _ F.b2-pos (burst-on ByRow _ F _ p.right_form _ _ _ p.fact) c.loop-k.k in
-    let m = F.n2-most in
+    let l = digit-column _ _ _ _ _ _ F.b2_pos (burst-on ByRow _ F _ p.right_form _ _ _ p.fact) c.loop-k.k in
+    let m = F.n2_most in
     omega arith
 
 pub overflow_shr-x : goal.overflow_shr-x
@@ -46,7 +46,7 @@ pub turn_bit_if-requires : goal.turn_bit_if-requires
 turn_bit_if-requires c =
     let p = c.requires in
     let F = p.accepted_with.formed in
-    let R = burst-on ByRow _ F _ p.right_form _ _ _ p.fact in record { framed = p.accepted_with.framed; formed = F; i_lt_n1 = (digit-row _ _ _ _ _ _ F.b2-pos R _ (omega arith), digit-column _ _ _ _ _ _ F.b2-pos R _); bits_len = ap length c.loop-k.invariant.1 ∙ (bytes-form 1 _ _).size ∙ row-sheet _ }
+    let R = burst-on ByRow _ F _ p.right_form _ _ _ p.fact in record { framed = p.accepted_with.framed; formed = F; i_lt_n1 = (digit-row _ _ _ _ _ _ F.b2_pos R _ (omega arith), digit-column _ _ _ _ _ _ F.b2_pos R _); bits_len = ap length c.loop-k.invariant.1 ∙ (bytes-form 1 _ _).size ∙ row-sheet _ }
 
 pub overflow_add-k : goal.overflow_add-k
 overflow_add-k c =

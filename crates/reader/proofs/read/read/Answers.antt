@@ -29,4 +29,4 @@ read_lent-requires c =
     let ready : let a = c.args in Lengths a.lay a.plan.now a.sheet.now a.bits.now = length-zero _ _ _ _ passes in
     let R = ready in
     let u = c.length_checks-checked.ensures.unpacked c.if-checked-ne0.false in
-    rw c.header_of.ensures (record { accepted_with = accepted-with _ _ refl R.accepted; unpacked = u; sheet_len = R.sheet-size; bits_len = R.bits-size })
+    rw c.header_of.ensures (record { accepted_with = accepted-with _ _ refl R.accepted; unpacked = u; sheet_len = R.sheet_len; bits_len = R.bits_size })

@@ -17,15 +17,15 @@ loop-k-init c = (omega arith, digits-none _ _ _ _ _ _ _ _)
 pub overflow_add-top : goal.overflow_add-top
 overflow_add-top c =
     let p = c.requires in
-    let l = digit-row _ _ _ _ _ _ p.burst_size.b2-pos p.rectangle c.loop-k.k (omega arith) in
-    let m = p.rectangle.n1-most in
+    let l = digit-row _ _ _ _ _ _ p.burst_size.b2_pos p.rectangle c.loop-k.k (omega arith) in
+    let m = p.rectangle.n1_most in
     omega arith
 
 pub overflow_add-left : goal.overflow_add-left
 overflow_add-left c =
     let p = c.requires in
-    let l = digit-column _ _ _ _ _ _ p.burst_size.b2-pos p.rectangle c.loop-k.k in
-    let m = p.rectangle.n2-most in
+    let l = digit-column _ _ _ _ _ _ p.burst_size.b2_pos p.rectangle c.loop-k.k in
+    let m = p.rectangle.n2_most in
     omega arith
 
 pub overflow_shr-x : goal.overflow_shr-x
@@ -34,10 +34,10 @@ overflow_shr-x c = omega (arith, box-size c.requires.burst_size)
 pub turn_in-requires : goal.turn_in-requires
 turn_in-requires c =
     let p = c.requires in
-    let r = digit-row _ _ _ _ _ _ p.burst_size.b2-pos p.rectangle c.loop-k.k (omega arith) in
-    let d = digit-column _ _ _ _ _ _ p.burst_size.b2-pos p.rectangle c.loop-k.k in
+    let r = digit-row _ _ _ _ _ _ p.burst_size.b2_pos p.rectangle c.loop-k.k (omega arith) in
+    let d = digit-column _ _ _ _ _ _ p.burst_size.b2_pos p.rectangle c.loop-k.k in
     let e = ap length c.loop-k.invariant.1 ∙ digits-length _ _ _ _ _ _ _ _ _ ∙ p.sheet_len in
-    record { sizes = record { n1-most = p.rectangle.n1-most; n2-most = p.rectangle.n2-most }; s_len = e; i_lt_n1 = (r, d) }
+    record { sizes = record { n1_most = p.rectangle.n1_most; n2_most = p.rectangle.n2_most }; s_len = e; i_lt_n1 = (r, d) }
 
 pub overflow_add-k : goal.overflow_add-k
 overflow_add-k c = omega (arith, box-size c.requires.burst_size)

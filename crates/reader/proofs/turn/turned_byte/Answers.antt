@@ -10,26 +10,26 @@ use Rattle.reader.proofs.Turned.{digit-row, digit-column, digit-byte, rows-most,
 use Rattle.reader.proofs.turn.turned_byte.Goals as goal
 
 pub row_bytes-size-requires : goal.row_bytes-size-requires
-row_bytes-size-requires c = let m = c.requires.rectangle.n2-most in omega arith
+row_bytes-size-requires c = let m = c.requires.rectangle.n2_most in omega arith
 
 pub overflow_mul-top : goal.overflow_mul-top
-overflow_mul-top c = omega (arith, rows-most _ _ _ _ _ _ c.requires.burst_size.b2-pos c.requires.rectangle c.args.top _ c.row_bytes-size.ensures (omega arith))
+overflow_mul-top c = omega (arith, rows-most _ _ _ _ _ _ c.requires.burst_size.b2_pos c.requires.rectangle c.args.top _ c.row_bytes-size.ensures (omega arith))
 
 pub returns-then-k-top : goal.returns-then-k-top
 returns-then-k-top c =
     let p = c.requires in
-    byte_above _ _ _ _ _ _ _ _ _ p.burst_size.b2-pos p.rectangle p.k_in_bounds (rw (← c.row_bytes-size.ensures) c.if-k-top.true)
+    byte_above _ _ _ _ _ _ _ _ _ p.burst_size.b2_pos p.rectangle p.k_in_bounds (rw (← c.row_bytes-size.ensures) c.if-k-top.true)
 
 pub overflow_add-top : goal.overflow_add-top
-overflow_add-top c = let r = c.requires.rectangle in omega (arith, r.rows_on, r.n1-most)
+overflow_add-top c = let r = c.requires.rectangle in omega (arith, r.rows_on, r.n1_most)
 
 pub overflow_mul-top-2 : goal.overflow_mul-top-2
-overflow_mul-top-2 c = omega (arith, rows-most _ _ _ _ _ _ c.requires.burst_size.b2-pos c.requires.rectangle (c.args.top + c.args.b1) _ c.row_bytes-size.ensures (omega arith))
+overflow_mul-top-2 c = omega (arith, rows-most _ _ _ _ _ _ c.requires.burst_size.b2_pos c.requires.rectangle (c.args.top + c.args.b1) _ c.row_bytes-size.ensures (omega arith))
 
 pub returns-then-top-b1 : goal.returns-then-top-b1
 returns-then-top-b1 c =
     let p = c.requires in
-    byte-below _ _ _ _ _ _ _ _ _ p.burst_size.b2-pos p.rectangle p.k_in_bounds (rw (← c.row_bytes-size.ensures) c.if-top-b1.true)
+    byte-below _ _ _ _ _ _ _ _ _ p.burst_size.b2_pos p.rectangle p.k_in_bounds (rw (← c.row_bytes-size.ensures) c.if-top-b1.true)
 
 pub overflow_mul-count : goal.overflow_mul-count
 overflow_mul-count c = omega (arith, box-size c.requires.burst_size)
@@ -40,15 +40,15 @@ loop-m-init c = (omega arith, byte-none _ _ _ _ _ _ _ _)
 pub overflow_add-top-in-loop-m : goal.overflow_add-top-in-loop-m
 overflow_add-top-in-loop-m c =
     let p = c.requires in
-    let l = digit-row _ _ _ _ _ _ p.burst_size.b2-pos p.rectangle c.loop-m.m (omega arith) in
-    let m = p.rectangle.n1-most in
+    let l = digit-row _ _ _ _ _ _ p.burst_size.b2_pos p.rectangle c.loop-m.m (omega arith) in
+    let m = p.rectangle.n1_most in
     omega arith
 
 pub overflow_add-left : goal.overflow_add-left
 overflow_add-left c =
     let p = c.requires in
-    let l = digit-column _ _ _ _ _ _ p.burst_size.b2-pos p.rectangle c.loop-m.m in
-    let m = p.rectangle.n2-most in
+    let l = digit-column _ _ _ _ _ _ p.burst_size.b2_pos p.rectangle c.loop-m.m in
+    let m = p.rectangle.n2_most in
     omega arith
 
 pub overflow_shr-x : goal.overflow_shr-x
@@ -58,9 +58,9 @@ pub byte_turned-y-requires : goal.byte_turned-y-requires
 byte_turned-y-requires c =
     let a = c.args in
     let p = c.requires in
-    let b = digit-byte _ _ _ _ _ _ p.burst_size.b2-pos p.rectangle c.loop-m.m (omega arith) in
-    let q = rows-most _ _ _ _ _ _ p.burst_size.b2-pos p.rectangle (a.top + a.b1) _ refl (omega arith) in
-    let m = p.rectangle.n2-most in
+    let b = digit-byte _ _ _ _ _ _ p.burst_size.b2_pos p.rectangle c.loop-m.m (omega arith) in
+    let q = rows-most _ _ _ _ _ _ p.burst_size.b2_pos p.rectangle (a.top + a.b1) _ refl (omega arith) in
+    let m = p.rectangle.n2_most in
     (omega arith, omega arith)
 
 pub overflow_add-m : goal.overflow_add-m

@@ -34,9 +34,9 @@ read_scans-requires c =
     (record {
       accepted_with = accepted-with _ _ refl R.both.accepted;
       unpacked = u;
-      right_form = R.both.first-form;
-      right_form_2 = R.both.second-form;
-      bits_len = R.bits-size;
+      right_form = R.both.first_form;
+      right_form_2 = R.both.second_form;
+      bits_len = R.bits_size;
     })
 
 pub returns : goal.returns

@@ -26,7 +26,7 @@ pub next_sums-count-requires : goal.next_sums-count-requires
 next_sums-count-requires c =
     let p = c.requires in
     let b = c.loop-k.invariant.1 in
-    record { first_le_k = (omega arith, omega (arith, p.inside), omega (arith, p.small), omega (arith, p.small, b.most)); sums_len = (b.long, b.sums-of.marked) }
+    record { first_le_k = (omega arith, omega (arith, p.inside), omega (arith, p.small), omega (arith, p.small, b.most)); sums_len = (b.long, b.sums_of.marked) }
 
 pub returns-then-count-eq0 : goal.returns-then-count-eq0
 returns-then-count-eq0 c = begun-stops c.loop-k.invariant.1 c.next_sums-count.ensures c.args.size (omega arith) c.if-count-eq0.true

@@ -90,6 +90,6 @@ read_sheet-requires c =
       unpacked = p.unpacked;
       sheet_len = ap length (cut-part a.stack.now _ _ _ _ place_is size) ∙ part_length a.stack.now _ _ sheet-in;
       numbers_len = ap length (cut-part a.numbers.now (a.i * numbers_size) numbers_size (a.i * numbers_size) numbers_size refl refl)
-          ∙ part_length a.numbers.now (a.i * numbers_size) numbers_size (omega (arith, p.count_bound.1, p.sized.numbers-size));
+          ∙ part_length a.numbers.now (a.i * numbers_size) numbers_size (omega (arith, p.count_bound.1, p.sized.numbers_len));
       bits_len = ap length (cut-part a.bits.now _ _ _ _ (ap (λ (k : ℕ). a.i * k) bits) bits) ∙ part_length a.bits.now _ _ bits_in;
     }

@@ -72,20 +72,20 @@ pub shape_of-stack : goal.shape_of-stack
 shape_of-stack c =
     let o = c.loop-i in
     let p = c.requires in
-    (long c.args.plan.now c.args.h c.args.count _ p.accepted_with.framed p.sized o.i o.invariant.1 _ o.invariant.0).stack-size ∙ sym p.sized.stack-size
+    (long c.args.plan.now c.args.h c.args.count _ p.accepted_with.framed p.sized o.i o.invariant.1 _ o.invariant.0).stack_size ∙ sym p.sized.stack_size
 
 pub shape_of-numbers : goal.shape_of-numbers
 shape_of-numbers c =
     let o = c.loop-i in
     let p = c.requires in
-    (long c.args.plan.now c.args.h c.args.count _ p.accepted_with.framed p.sized o.i o.invariant.1 _ o.invariant.0).numbers-size
-    ∙ sym p.sized.numbers-size
+    (long c.args.plan.now c.args.h c.args.count _ p.accepted_with.framed p.sized o.i o.invariant.1 _ o.invariant.0).numbers_len
+    ∙ sym p.sized.numbers_len
 
 pub shape_of-bits : goal.shape_of-bits
 shape_of-bits c =
     let o = c.loop-i in
     let p = c.requires in
-    (long c.args.plan.now c.args.h c.args.count _ p.accepted_with.framed p.sized o.i o.invariant.1 _ o.invariant.0).bits-size ∙ sym p.sized.bits-size
+    (long c.args.plan.now c.args.h c.args.count _ p.accepted_with.framed p.sized o.i o.invariant.1 _ o.invariant.0).bits_size ∙ sym p.sized.bits_size
 
 pub returns : goal.returns
 returns c =

@@ -32,9 +32,9 @@ read_each-requires c =
       unpacked = u;
       count_bound = (R.whole.most, refl);
       sized = record {
-        stack-size = R.whole.long;
-        numbers-size = R.numbers-size;
-        bits-size = R.bits-size;
+        stack_size = R.whole.long;
+        numbers_len = R.numbers_len;
+        bits_size = R.bits_size;
       };
     })
 

@@ -17,7 +17,7 @@ pub after-q-requires : goal.after-q-requires
 after-q-requires c =
     let l = c.loop-j in
     let p = c.requires in
-    rw l.invariant.2 (mod-lt l.j p.tables.small.b2-pos)
+    rw l.invariant.2 (mod-lt l.j p.tables.small.b2_pos)
 
 pub overflow_add-j : goal.overflow_add-j
 overflow_add-j c = omega arith

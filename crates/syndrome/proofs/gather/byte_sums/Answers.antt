@@ -13,7 +13,7 @@ returns-then-x-eq0 c =
       row = rw e (sym (byte-light _ _ _));
       column = rw e (sym (byte-light _ _ _));
       row_below = omega arith;
-      column-below = omega arith;
+      column_below = omega arith;
     }
 
 pub overflow_sub-n2 : goal.overflow_sub-n2
@@ -99,10 +99,10 @@ returns c =
     let e : c.loop-t.t ≡ n = omega arith in
     let l : a.j + n ≤ a.n2 = omega arith in
     let row : c.loop-t.row ≡ byte_sum (rows_at a.b2 a.rows.now) a.x a.j n = rw (← e) v.2.row_is in
-    let column : c.loop-t.column ≡ byte_sum (columns_at a.b1 a.q a.columns.now) a.x a.j n = rw (← e) v.2.column-is in
+    let column : c.loop-t.column ≡ byte_sum (columns_at a.b1 a.q a.columns.now) a.x a.j n = rw (← e) v.2.column_is in
     record {
       row = row;
       column = column;
       row_below = rw row (byte-below _ _ _ 32 n (λ t lt. row-weight _ _ _ _ _ _ W _));
-      column-below = rw column (byte-below _ _ _ 32 n (λ t lt. column-weight _ _ _ _ _ _ W _ (omega arith)));
+      column_below = rw column (byte-below _ _ _ 32 n (λ t lt. column-weight _ _ _ _ _ _ W _ (omega arith)));
     }

@@ -8,13 +8,13 @@ pub transpose-requires : goal.transpose-requires
 transpose-requires c =
     let p = c.requires in
     let e = c.in-ByRow.is in
-    record { n1_bound = (omega (arith, p.sizes.n1-most), omega (arith, p.sizes.n2-most)); source_len = rw e at p.source_len; target_len = rw e at p.target_len }
+    record { n1_bound = (omega (arith, p.sizes.n1_most), omega (arith, p.sizes.n2_most)); source_len = rw e at p.source_len; target_len = rw e at p.target_len }
 
 pub transpose-requires-in-ByColumn : goal.transpose-requires-in-ByColumn
 transpose-requires-in-ByColumn c =
     let p = c.requires in
     let e = c.in-ByColumn.is in
-    record { n1_bound = (omega (arith, p.sizes.n2-most), omega (arith, p.sizes.n1-most)); source_len = rw e at p.source_len; target_len = rw e at p.target_len }
+    record { n1_bound = (omega (arith, p.sizes.n2_most), omega (arith, p.sizes.n1_most)); source_len = rw e at p.source_len; target_len = rw e at p.target_len }
 
 pub returns-in-ByRow : goal.returns-in-ByRow
 unfolding exchanged transposed

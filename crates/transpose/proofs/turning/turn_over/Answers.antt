@@ -40,4 +40,4 @@ transpose_in-requires c =
     let m = ready in
     let F = m.accepted.formed in
     let size = in_size a.lay (code_of a.plan.now).n1 (code_of a.plan.now).n2 a.source.now m.form in
-    rw c.header_of-h.ensures (record { sizes = record { n1-most = F.n1-most; n2-most = F.n2-most }; source_len = size; target_len = m.target-size })
+    rw c.header_of-h.ensures (record { sizes = record { n1_most = F.n1_most; n2_most = F.n2_most }; source_len = size; target_len = m.target_size })

@@ -8,22 +8,22 @@ use Rattle.trial.proofs.Trials.{trial-starts, trial-misses, trial-turns, trial-f
 use Rattle.trial.proofs.sheet.try_all.Goals as goal
 
 pub overflow_sub-tops : goal.overflow_sub-tops
-overflow_sub-tops c = c.requires.small.n1-least
+overflow_sub-tops c = c.requires.small.n1_least
 
 pub overflow_add-tops : goal.overflow_add-tops
 overflow_add-tops c = let S = c.requires.small in omega arith
 
 pub overflow_sub-lefts : goal.overflow_sub-lefts
-overflow_sub-lefts c = c.requires.small.n2-least
+overflow_sub-lefts c = c.requires.small.n2_least
 
 pub overflow_add-lefts : goal.overflow_add-lefts
 overflow_add-lefts c = let S = c.requires.small in omega arith
 
 pub overflow_mul-patterns : goal.overflow_mul-patterns
-overflow_mul-patterns c = let l = c.requires.small.box-positions in omega arith
+overflow_mul-patterns c = let l = c.requires.small.box_positions in omega arith
 
 pub overflow_shl-patterns : goal.overflow_shl-patterns
-overflow_shl-patterns c = let l = c.requires.small.box-positions in omega arith
+overflow_shl-patterns c = let l = c.requires.small.box_positions in omega arith
 
 pub loop-top-init : goal.loop-top-init
 loop-top-init c = (omega arith, trial-starts _ _ _)
@@ -45,7 +45,7 @@ returns-then-x-patterns c =
     let left = c.loop-left.left in
     let up : top < h.n1 - h.b1 + 1 = omega arith in
     let on : left < h.n2 - h.b2 + 1 = omega arith in
-    let e = bit_is (h.b1 * h.b2) (let l = c.requires.small.box-positions in omega arith) in
+    let e = bit_is (h.b1 * h.b2) (let l = c.requires.small.box_positions in omega arith) in
     let low : c.try_rectangle-x.result < 2 ^ (h.b1 * h.b2) = omega arith in
     trial-finds (code_with c.args.plan.now h) _ _ _ _ _ up on c.loop-left.invariant.1 c.try_rectangle-x.ensures low
 
@@ -61,7 +61,7 @@ loop-left-preserved c =
     let h = c.args.h in
     let left = c.loop-left.left in
     let on : left < h.n2 - h.b2 + 1 = omega arith in
-    let e = bit_is (h.b1 * h.b2) (let l = c.requires.small.box-positions in omega arith) in
+    let e = bit_is (h.b1 * h.b2) (let l = c.requires.small.box_positions in omega arith) in
     let most : 2 ^ (h.b1 * h.b2) ≤ c.try_rectangle-x.result = omega arith in (
       omega arith,
       trial-misses (code_with c.args.plan.now h) _ _ _ _ on c.loop-left.invariant.1 (rw (← c.try_rectangle-x.ensures) most),

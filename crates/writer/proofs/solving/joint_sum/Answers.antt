@@ -7,7 +7,7 @@ use Rattle.writer.proofs.solving.joint_sum.Goals as goal
 pub joined-requires : goal.joined-requires
 joined-requires c =
     let p = c.requires in
-    (p.framed.small.rv-most, c.sheet_sums-s.ensures.row_below, c.sheet_sums-s.ensures.column-below)
+    (p.framed.small.rv_most, c.sheet_sums-s.ensures.row_below, c.sheet_sums-s.ensures.column_below)
 
 pub returns : goal.returns
 returns c =

@@ -30,7 +30,7 @@ write_sheet-requires c =
     let ready : let a = c.args in MayWrite a.lay a.plan.now a.bits.now a.sheet.now = write-zero _ _ _ _ passes in
     let L = ready.lengths in
     let u = c.write_checks-verdict.ensures.unpacked c.if-verdict-ne0.false in
-    rw c.header_of.ensures (record { accepted_with = accepted-with _ _ refl L.accepted; unpacked = u; bits_len = L.bits-size; sheet_len = L.sheet-size })
+    rw c.header_of.ensures (record { accepted_with = accepted-with _ _ refl L.accepted; unpacked = u; bits_len = L.bits_size; sheet_len = L.sheet_len })
 
 pub returns : goal.returns
 unfolding code_of written_in
