@@ -48,9 +48,9 @@ def main():
                     line = re.sub(WORD % re.escape(name), to, line)
                 else:
                     line = re.sub(r"(?<=[A-Za-z0-9_')])\." + re.escape(name) + r"(?![A-Za-z0-9_'-])", "." + to, line)
-                    line = re.sub(r"(?<=[{;] )" + re.escape(name) + r"(?= = )", to, line)
+                    line = re.sub(r"(?<=[{;] )" + re.escape(name) + r"(?= =( |$))", to, line)
                     if name not in here:
-                        line = re.sub(r"^(\s+)" + re.escape(name) + r"(?= = )", lambda m: m.group(1) + to, line)
+                        line = re.sub(r"^(\s+)" + re.escape(name) + r"(?= =( |$))", lambda m: m.group(1) + to, line)
             new.append(line)
         new = "\n".join(new)
         if new != text:

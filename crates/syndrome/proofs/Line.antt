@@ -118,7 +118,7 @@ module _ (s : List ℕ) (h : Header) (F : Framed s h) (columns : List ℕ) (U : 
         column = w ∙ line-column t;
         row_below =
             rw v (line-below 32 h.n2 (t i) (rows_at h.b2 rows) (λ j l. row-weight h.n2 h.b1 h.b2 (i % h.b1) rows columns words_of j));
-        column-below =
+        column_below =
             rw w
             (line-below 32 h.n2 (t i) (columns_at h.b1 (i % h.b1) columns)
             (λ j l. column-weight h.n2 h.b1 h.b2 (i % h.b1) rows columns words_of j l));
