@@ -2,7 +2,7 @@
 """respell_fields.py: brings the fields of the repository's own records to snake case, as `n1-most` to `n1_most`.
 
 Run once at the top, after respell.py. A field whose name no lemma has is written anew wherever it stands; one that shares its name
-with a lemma only where it is a field: in its record, after a dot, and before ` = ` in a record's value. Lemmas keep their dashes, which
+with a lemma only where it is a field: in its record, after a dot that no module's name precedes, and before ` = ` in a record's value. Lemmas keep their dashes, which
 part what they are of. Three fields would meet a definition's name, and are called otherwise.
 """
 import glob
@@ -38,6 +38,7 @@ def main():
     for f in files:
         text = open(f, encoding="utf-8").read()
         here = {m.group(1) for line, inside in lines_of(text) for m in [DECLARED.match(line)] if m and not inside}
+        modules = set(re.findall(r"(?m)^use \S+ as (\S+)$", text))
         new = []
         for line, inside in lines_of(text):
             for name in fields:
@@ -47,7 +48,8 @@ def main():
                 if name not in lemmas or inside:
                     line = re.sub(WORD % re.escape(name), to, line)
                 else:
-                    line = re.sub(r"(?<=[A-Za-z0-9_')])\." + re.escape(name) + r"(?![A-Za-z0-9_'-])", "." + to, line)
+                    dotted = r"([A-Za-z0-9_'-]*[A-Za-z0-9_')])\." + re.escape(name) + r"(?![A-Za-z0-9_'-])"
+                    line = re.sub(dotted, lambda m: m.group(0) if m.group(1) in modules else m.group(1) + "." + to, line)
                     line = re.sub(r"(?<=[{;] )" + re.escape(name) + r"(?= =( |$))", to, line)
                     if name not in here:
                         line = re.sub(r"^(\s+)" + re.escape(name) + r"(?= =( |$))", lambda m: m.group(1) + to, line)

@@ -107,7 +107,7 @@ unfolding sheet_bytes row_bytes
 data-bytes k l = omega arith
 
 sheet-bytes : (lay : Layout) (plan : List ℕ) → Formed (code_of plan) → size_in lay (code_of plan).n1 (code_of plan).n2 ≤ 45056
-sheet-bytes lay plan F = layouts.size_most lay (code_of plan).n1 (code_of plan).n2 (record { n1_most = F.n1_most; n2_most = F.n2_most })
+sheet-bytes lay plan F = layouts.size-most lay (code_of plan).n1 (code_of plan).n2 (record { n1_most = F.n1_most; n2_most = F.n2_most })
 
 pub write-fits : (lay : Layout) (plan bits sheet : List ℕ) → SmallVerdict (write_checks lay plan bits sheet)
 unfolding write_checks
