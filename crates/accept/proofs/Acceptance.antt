@@ -35,16 +35,15 @@ use Rattle.plan.specs.Bytes.{code_of}
 use Rattle.plan.specs.Form.{form_verdict}
 use Rattle.plan.proofs.Sequence.{else-zero, else-second}
 use Rattle.plan.proofs.Forming.{at_zero, zero-at, formed, form-passes}
-use Rattle.accept.specs.declared.pairs.Pair.{Pair}
-use Rattle.accept.specs.declared.pairs.Pair.TheVariants.{Failing, Clear}
+use Rattle.std.proofs.Common.{Option, Some, None}
 use Rattle.accept.specs.Pairs.{pair_verdict}
 use Rattle.accept.specs.Verdict.{rows_verdict, columns_verdict, checks_verdict, conditions_verdict, plan_verdict, Accepted}
 use Rattle.accept.proofs.Pairing.{clear-all, all-clear}
 
 -- a pair search that does not refuse is clear
-pair-zero : (n : ℕ) (p : Pair) → (pair_verdict (suc n) p).number ≡ 0 → p ≡ Clear
-pair-zero n (Failing i j) e = absurd (omega arith)
-pair-zero n Clear e = refl
+pair-zero : (n : ℕ) (p : Option (ℕ × ℕ)) → (pair_verdict (suc n) p).number ≡ 0 → p ≡ None
+pair-zero n (Some (i, j)) e = absurd (omega arith)
+pair-zero n None e = refl
 
 -- a test that depends on whether t is 0
 when-any : (t : ℕ) (a b : Bool) → t ≡ 0 → cond (eqb t 0) a b ≡ a

@@ -22,12 +22,11 @@ use Rattle.plan.specs.declared.header.Header.{Header}
 use Rattle.plan.specs.Verdict.{accepted, refusal, verdict_if, ◌or_else◌}
 use Rattle.plan.specs.Header.{header_length, header_of}
 use Rattle.plan.specs.Bytes.{code_of}
-use Rattle.plan.specs.Form.{bad_burst, bad_sheet, bad_widths, bad_cells, bad_offsets, sizes_verdict, offsets_verdict, fields_verdict, header_verdict, verdict_at}
-use Rattle.plan.specs.Form.{first_large, entries_verdict, bad_pair, list_verdict, form_verdict}
+use Rattle.plan.specs.Form.{bad_burst, bad_sheet, bad_widths, bad_cells, bad_offsets, sizes_verdict, offsets_verdict, fields_verdict, header_verdict}
+use Rattle.plan.specs.Form.{verdict_at, first_large, entries_verdict, bad_pair, list_verdict, form_verdict}
 use Rattle.plan.proofs.Framing.{framed}
 use Rattle.plan.proofs.Forming.{formed}
-use Rattle.accept.specs.declared.pairs.Pair.{Pair}
-use Rattle.accept.specs.declared.pairs.Pair.TheVariants.{Failing, Clear}
+use Rattle.std.proofs.Common.{Option, Some, None}
 use Rattle.accept.specs.Pairs.{in_row, from_row, first_failing, pair_verdict}
 use Rattle.accept.specs.Verdict.{rows_verdict, columns_verdict, checks_verdict, conditions_verdict, plan_verdict}
 
@@ -62,16 +61,16 @@ pub at-fits : (n k : ℕ) (v : Verdict) → (k < n → SmallVerdict v) → Small
 at-fits n k v f = if-fits (ltb k n) v (λ e. f (ltb-true k n e))
 
 -- a failing pair lies below the number of starts
-PairBelow : ℕ → Pair → Type 0
-PairBelow n (Failing i j) = (i < n) × (j < n)
-PairBelow n Clear = Unit {0}
+PairBelow : ℕ → Option (ℕ × ℕ) → Type 0
+PairBelow n (Some (i, j)) = (i < n) × (j < n)
+PairBelow n None = Unit {0}
 
-row_below : (ok : ℕ → ℕ → Bool) (n i m j : ℕ) (rest : Pair) → i < n → j + m ≤ n → PairBelow n rest → PairBelow n (in_row ok i j m rest)
+row_below : (ok : ℕ → ℕ → Bool) (n i m j : ℕ) (rest : Option (ℕ × ℕ)) → i < n → j + m ≤ n → PairBelow n rest → PairBelow n (in_row ok i j m rest)
 unfolding in_row PairBelow
 row_below ok n i zero j rest l u b = b
 row_below ok n i (suc m) j rest l u b = go (ok i j) (row_below ok n i m (suc j) rest l (omega arith) b)
   where
-    go : (t : Bool) → PairBelow n (in_row ok i (suc j) m rest) → PairBelow n (cond t (in_row ok i (suc j) m rest) (Failing i j))
+    go : (t : Bool) → PairBelow n (in_row ok i (suc j) m rest) → PairBelow n (cond t (in_row ok i (suc j) m rest) (Some (i, j)))
     go true ih = ih
     go false ih = (l, omega arith)
 
@@ -87,9 +86,9 @@ pub pair_fits : (number n : ℕ) (ok : ℕ → ℕ → Bool) (start : ℕ → �
 unfolding first_failing PairBelow
 pair_fits number n ok start some l u s = go (from_row ok start n 0 n) (rows-below ok start n n 0 s (omega arith))
   where
-    go : (p : Pair) → PairBelow n p → SmallVerdict (pair_verdict number p)
-    go (Failing i j) b = record { number_fits = l; p_fits = omega (arith, b.0); q_fits = omega (arith, b.1); silent = refuses some }
-    go Clear b = accepted-fits
+    go : (p : Option (ℕ × ℕ)) → PairBelow n p → SmallVerdict (pair_verdict number p)
+    go (Some (i, j)) b = record { number_fits = l; p_fits = omega (arith, b.0); q_fits = omega (arith, b.1); silent = refuses some }
+    go None b = accepted-fits
 
 pub refusal-fits : (n : ℕ) → n < 32 → SmallVerdict (refusal n 0 0)
 refusal-fits n l = record { number_fits = l; p_fits = omega arith; q_fits = omega arith; silent = λ _. (refl, refl) }

@@ -1,13 +1,12 @@
 -- What the first of two windows leaves of a table.
 --
 --   Filled g from k n t       of the n words of t, those from a place on and before k are the values of g
---   filled-start, filled_next
 --   prepared-rows             the words after a window, as the window's basis leaves them, tell of each pair
 --   prepared-columns          so do those after a strip, reduced by the strip
 --   left, row-left            one row of pairs, by what the first window leaves
 --   block_start, block-next a block of words, one more after the other
 --   filled-block, cycle-home  what a block fills, and where the next begins
---   kept-most                 no more are kept than there are
+--   kept-most, kept-inside    no more are kept than there are, and of a window all fit
 --   rest-free                 a part is free where all of it is counted
 --
 -- Assumes nothing.
@@ -31,27 +30,16 @@ use Rattle.gf2.proofs.Keeping.{kept_append}
 use Rattle.gf2.proofs.Runs.{run-part, run-map, part_length}
 use Rattle.plan.specs.declared.table.Table.{Table}
 use Rattle.plan.specs.declared.table.Table.TheVariants.{Rows, Columns}
-use Rattle.accept.specs.declared.pairs.Pair.{Pair}
-use Rattle.accept.specs.declared.pairs.Pair.TheVariants.{Clear}
+use Rattle.std.proofs.Common.{Option, None}
 use Rattle.accept.specs.Pairs.{in_row}
 use Rattle.plan.specs.Table.{word_at}
-use Rattle.accept.specs.Windows.{reduction, rest_run, pair_list, pair_free, windows_free, start_of, Windows, Block, Prepared, Reduced}
+use Rattle.accept.specs.Windows.{reduction, rest_run, pair_list, pair_free, windows_free, start_of, WindowIn, Windows, Block, Prepared, Reduced}
 use Rattle.accept.proofs.Pairing.{row-equal}
 use Rattle.accept.proofs.Shift.{window-in}
 
 pub record Filled (g : ℕ → ℕ) (from k n : ℕ) (t : List ℕ) : Type 0 where
   pub size : length t ≡ n
   pub value : (x : ℕ) → from ≤ x → x < k → get_or t x 0 ≡ g x
-
-pub filled-start : (g : ℕ → ℕ) (from n : ℕ) (t : List ℕ) → length t ≡ n → Filled g from from n t
-filled-start g from n t e = record { size = e; value = λ x l u. absurd (omega arith) }
-
-pub filled_next : {g : ℕ → ℕ} {from k n : ℕ} {t : List ℕ} → Filled g from k n t → k < n → (v : ℕ) → v ≡ g k → Filled g from (k + 1) n (set t k v)
-filled_next {g} {from} {k} {n} {t} f l v e = record { size = length-set t k v ∙ f.size; value = λ x p u. go x p u (ℕ_discrete x k) }
-  where
-    go : (x : ℕ) → from ≤ x → x < k + 1 → Dec (x ≡ k) → get_or (set t k v) x 0 ≡ g x
-    go x p u (yes q) = rw q (get_or-set_same t k v 0 (omega (arith, f.size)) ∙ e)
-    go x p u (no q) = get_or-set_other t k x v 0 q ∙ f.value x p (omega arith)
 
 -- the rest of the window at b, in a table that has the values
 rest_part : (g : ℕ → ℕ) (size a b : ℕ) {n : ℕ} (t : List ℕ) → a ≤ b → b + size ≤ n → Filled g (a + size) n n t
@@ -104,12 +92,12 @@ left taken rest size step i j = eqb taken size && free_from [] (part (max (0 + s
 
 -- one row of pairs, by what the first window leaves
 pub row-left : (t : Table) (words : List ℕ) {rest : List ℕ} {step size count taken : ℕ} → Windows (length words) step size count
-    → Prepared t words size 0 taken rest → {s : ℕ} → s ≡ start_of t 0 → {r : Pair} → in_row (left taken rest size step) 0 s (count - s) Clear ≡ r
-    → r ≡ in_row (windows_free t (word_at words) step size) 0 (start_of t 0) (count - start_of t 0) Clear
+    → Prepared t words size 0 taken rest → {s : ℕ} → s ≡ start_of t 0 → {r : Option (ℕ × ℕ)} → in_row (left taken rest size step) 0 s (count - s) None ≡ r
+    → r ≡ in_row (windows_free t (word_at words) step size) 0 (start_of t 0) (count - start_of t 0) None
 row-left t words {rest} {step} {size} {count} {taken} w p {s} e f =
     sym f
-    ∙ row-equal (left taken rest size step) (windows_free t (word_at words) step size) 0 (count - s) s Clear (λ k l u. sym (pair k (omega arith)))
-    ∙ ap (λ (x : ℕ). in_row (windows_free t (word_at words) step size) 0 x (count - x) Clear) e
+    ∙ row-equal (left taken rest size step) (windows_free t (word_at words) step size) 0 (count - s) s None (λ k l u. sym (pair k (omega arith)))
+    ∙ ap (λ (x : ℕ). in_row (windows_free t (word_at words) step size) 0 x (count - x) None) e
   where
     pair : (k : ℕ) → k < count → windows_free t (word_at words) step size 0 k ≡ left taken rest size step 0 k
     pair k l = ap (λ (a : ℕ). pair_free t (word_at words) size a (k * step)) (zero-mul step) ∙ p.free (k * step) (omega arith) (window-in w k l)
@@ -162,6 +150,10 @@ module _ (f : ℕ → ℕ) (a size k n : ℕ) (few : n ≤ size) (after : a + si
 -- no more are kept than there are
 pub kept-most : {ms : List ℕ} {r : Kept} → KeptOf ms r → r.taken ≤ length ms
 kept-most {ms} {r} k = omega (arith, k.count, taken-le ms [])
+
+pub kept-inside : (a size : ℕ) (words : List ℕ) {r : Kept} → KeptOf (part a (a + size) words) r → WindowIn (length words) a size → r.taken ≤ length r.words
+kept-inside a size words k w =
+    omega (arith, kept-most k, part_length a (a + size) words (omega arith) w.inside, k.size, w.size_most)
 
 -- a part is free where all of it is counted
 pub rest-free : (a b : ℕ) (t : List ℕ) {r : ℕ} → a ≤ b → b ≤ length t → r ≡ taken_from [] (part a b t) → eqb r (b - a) ≡ free_from [] (part a b t)

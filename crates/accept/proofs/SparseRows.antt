@@ -25,7 +25,7 @@ use Rattle.sparse.specs.Sets.{clear, set_sum, line_hit}
 use Rattle.sparse.proofs.Range.{InRange}
 use Rattle.sparse.proofs.Lines as lines
 use Rattle.sparse.proofs.Equal.{line-equal}
-use Rattle.accept.specs.declared.pairs.Pair.TheVariants.{Failing, Clear}
+use Rattle.std.proofs.Common.{Some, None}
 use Rattle.accept.specs.Pairs.{in_row}
 use Rattle.accept.specs.Windows.{reduction, sparse_free, line_clear, Windows, Reduced}
 use Rattle.accept.proofs.Pairing.{row_next, row-fails, row-equal, row-steps}
@@ -85,15 +85,15 @@ module _ (t : ℕ) (t1 : 1 ≤ t) (t2 : t ≤ 2) (f : ℕ → ℕ) (n : ℕ) whe
         ∙ next-is size step (i * step) (j * step) (mul-le-mul_right step l) few (omega arith) e
         ∙ ap₂ (λ (x y : ℕ). not (line_hit t f x y step (set_sum t f (i * step) size))) (sym from) (sym last)
 
-    pub rows_self : clear t f (i * step) size ≡ false → in_row ok i i (count - i) Clear ≡ Failing i i
-    rows_self e = row-fails ok count i i Clear li (self-is size (i * step) (window-in w i li) ∙ e)
+    pub rows_self : clear t f (i * step) size ≡ false → in_row ok i i (count - i) None ≡ Some (i, i)
+    rows_self e = row-fails ok count i i None li (self-is size (i * step) (window-in w i li) ∙ e)
 
-    pub rows_row : clear t f (i * step) size ≡ true → in_row ok i i (count - i) Clear ≡ in_row new i (i + 1) (count - (i + 1)) Clear
+    pub rows_row : clear t f (i * step) size ≡ true → in_row ok i i (count - i) None ≡ in_row new i (i + 1) (count - (i + 1)) None
     rows_row e =
         let one : i + 1 ≡ suc i = omega arith in
         let self = self-is size (i * step) (window-in w i li) ∙ e in
-        row_next ok count i i Clear li self
-        ∙ rw one (row-steps ok new i (count - suc i) (suc i) Clear (λ l. step_is i (omega arith) (omega arith) self)
+        row_next ok count i i None li self
+        ∙ rw one (row-steps ok new i (count - suc i) (suc i) None (λ l. step_is i (omega arith) (omega arith) self)
         (λ k l u e. step_is k (omega arith) (omega arith) e))
 
 -- one range of reduced entries
@@ -151,12 +151,12 @@ module _ (t : ℕ) (t1 : 1 ≤ t) (t2 : t ≤ 2) (f : ℕ → ℕ) (n : ℕ)
       (omega arith) (omega arith) (omega arith) N
       ∙ ap (λ (x : ℕ). not (line_hit t (reduction f first size) (max (first + size) (suc j * step)) x step (eqb 0))) (sym last)
 
-  pub columns-row : in_row strip_ok i (i + 1) (count - (i + 1)) Clear ≡ in_row strip_new i (i + 1) (count - (i + 1)) Clear
+  pub columns-row : in_row strip_ok i (i + 1) (count - (i + 1)) None ≡ in_row strip_new i (i + 1) (count - (i + 1)) None
   unfolding sparse_free
   columns-row =
       let one : i + 1 ≡ suc i = omega arith in
       rw one
-      (row-steps strip_ok strip_new i (count - suc i) (suc i) Clear (λ l. line-is i (omega arith) (omega arith) start)
+      (row-steps strip_ok strip_new i (count - suc i) (suc i) None (λ l. line-is i (omega arith) (omega arith) start)
       (λ k l u e. line-is k (omega arith) (omega arith)
       (free-none t t1 t2 (reduction f first size) n (max (first + size) (k * step)) (k * step + size)
       (let m : first ≤ k * step = mul-le-mul_right step (let v : i ≤ k = omega arith in v) in omega arith) e)))
@@ -167,13 +167,13 @@ module _ (t : ℕ) (t1 : 1 ≤ t) (t2 : t ≤ 2) (f : ℕ → ℕ) (n : ℕ)
 -- the same by the words that the strip leaves
 pub strip-row : (t : ℕ) → 1 ≤ t → t ≤ 2 → (words rest : List ℕ) (step size count i : ℕ) → Windows (length words) step size count → step ≤ size → i < count
     → Reduced words size (i * step) rest → (T : ℕ → Bool) → ((x : ℕ) → T x ≡ eqb 0 x)
-    → in_row (line_clear t (word_at rest) (i * step + size) step size T) i (i + 1) (count - (i + 1)) Clear
-    ≡ in_row (λ i j. sparse_free Columns (word_at words) t (length words) size (i * step) (j * step)) i (i + 1) (count - (i + 1)) Clear
+    → in_row (line_clear t (word_at rest) (i * step + size) step size T) i (i + 1) (count - (i + 1)) None
+    ≡ in_row (λ i j. sparse_free Columns (word_at words) t (length words) size (i * step) (j * step)) i (i + 1) (count - (i + 1)) None
 unfolding line_clear
 strip-row t t1 t2 words rest step size count i w few li R T only =
     row-equal (line_clear t (word_at rest) (i * step + size) step size T)
     (line_clear t (reduction (word_at words) (i * step) size) (i * step + size) step size (eqb 0)) i
-    (count - (i + 1)) (i + 1) Clear
+    (count - (i + 1)) (i + 1) None
     (λ k l u.
     let m : suc i * step ≤ k * step = mul-le-mul_right step (let z : suc i ≤ k = omega arith in z) in
     let q = suc-mul i step in

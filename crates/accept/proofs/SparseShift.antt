@@ -29,7 +29,7 @@ use Rattle.gf2.proofs.Multiplication.{times-linear, times-injective, powers-step
 use Rattle.gf2.proofs.Independence.{pick_true, pick-false}
 use Rattle.gf2.proofs.Sparse.{apart-apart, so-apart, free-up-to, so-free}
 use Rattle.plan.specs.Table.{word_at}
-use Rattle.accept.specs.declared.pairs.Pair.TheVariants.{Clear}
+use Rattle.std.proofs.Common.{None}
 use Rattle.accept.specs.Pairs.{in_row, first_failing}
 use Rattle.plan.specs.declared.table.Table.{Table}
 use Rattle.plan.specs.declared.table.Table.TheVariants.{Rows, Columns}
@@ -225,7 +225,7 @@ module _ (p : ℕ) (odd : p % 2 ≡ 1) (f : ℕ → ℕ) (n : ℕ) (steps : (k :
 
 pub few-row : (t : Table) (words : List ℕ) (step size count most : ℕ) → Windows (length words) step size count → are_powers words ≡ true
     → first_failing (few_free t (word_at words) most (length words) step size) (start_of t) count
-    ≡ in_row (few_free t (word_at words) most (length words) step size) 0 (start_of t 0) (count - start_of t 0) Clear
+    ≡ in_row (few_free t (word_at words) most (length words) step size) 0 (start_of t 0) (count - start_of t 0) None
 few-row t words step size count most w e =
     first-row (few_free t (word_at words) most (length words) step size) (start_of t) count w.some
     (λ i j _ l u. (start-apart t i j l, shifted i j (let b = start-from t i in omega arith) u))

@@ -1,18 +1,15 @@
-// Checks 8 and 9 where bursts have few cells. Of a later window only those sets are new whose last place is in its last line: the others lie in
-// the window before it.
+// Checks 8 and 9 where bursts have few cells. Of a later window only those sets are new whose last place is in its last line: the others
+// lie in the window before it.
 ghost use Rattle.std.specs.Prelude.{◌≡◌, ◌+◌, ◌-◌, ◌*◌, ◌≤◌, ◌<◌, eqb, length};
 ghost use Rattle.gf2.specs.Powers.{Digits32};
 ghost use Rattle.plan.specs.Table.{word_at};
 ghost use Rattle.plan.specs.declared.table.Table.TheVariants.{Rows, Columns};
 ghost use Rattle.sparse.specs.Sets.{one_of, Marked};
-ghost use Rattle.accept.specs.declared.pairs.Pair.TheVariants.{Clear};
 ghost use Rattle.accept.specs.Pairs.{in_row, first_failing};
 ghost use Rattle.accept.specs.Windows.{few_free, line_clear, start_of, Windows, Later, FewWindows};
 
-use crate::pairs::Pair;
 use crate::rest::differ_rest;
 use gf2::powers::are_powers;
-use layout::compare::larger;
 use plan::table::Table;
 use sparse::collect::{only_zero, window_sums};
 use sparse::hits::line_hit;
@@ -28,20 +25,20 @@ fn later(
     size: usize,
     count: usize,
     t: usize,
-) -> Pair
+) -> Option<(usize, usize)>
     requires windows { Windows (length words.now) step size count × Later step size count i floor }
     requires marked { Marked sums.now marks.now }
     ensures { result ≡ in_row (line_clear t (word_at words.now) floor step size (one_of sums.now)) i
-        (i + 1) (count - (i + 1)) Clear }
+        (i + 1) (count - (i + 1)) None }
 {
     for j in i + 1..count {
         let start = j * step;
-        let from = larger(floor, start);
+        let from = floor.max(start);
         if line_hit(words, sums, marks, from, start + size - step, step, t) {
-            return Pair::Failing(i, j);
+            return Some((i, j));
         }
     }
-    Pair::Clear
+    None
 }
 
 // The pairs of window i of the row table.
@@ -54,16 +51,15 @@ fn row_of(
     t: usize,
     sums: &mut [u64],
     marks: &mut [u8],
-) -> Pair
+) -> Option<(usize, usize)>
     requires windows { Windows (length words.now) step size count × FewWindows t step size count i }
     requires sums_len { (length sums.old ≡ 257) × (length marks.old ≡ 4096) }
     ensures { result ≡ in_row (few_free Rows (word_at words.now) t (length words.now) step size) i
-        i (count - i) Clear }
+        i (count - i) None }
 {
-    let n = window_sums(words, i * step, size, t, sums, marks);
-    if n == 0 {
-        return Pair::Failing(i, i);
-    }
+    let Some(n) = window_sums(words, i * step, size, t, sums, marks) else {
+        return Some((i, i));
+    };
     later(words, &sums[..n], marks, i, 0, step, size, count, t)
 }
 
@@ -78,11 +74,11 @@ fn strip_of(
     rest: &mut [u64],
     sums: &mut [u64],
     marks: &mut [u8],
-) -> Pair
+) -> Option<(usize, usize)>
     requires windows { Windows (length words.now) step size count × FewWindows t step size count i }
     requires rest_len { (length rest.old ≡ length words.now) × (length sums.old ≡ 257) × (length marks.old ≡ 4096) }
     ensures { result ≡ in_row (few_free Columns (word_at words.now) t (length words.now) step size) i
-        (i + 1) (count - (i + 1)) Clear }
+        (i + 1) (count - (i + 1)) None }
 {
     let first = i * step;
     differ_rest(words, first, size, rest);
@@ -110,11 +106,11 @@ fn pairs_of(
     count: usize,
     t: usize,
     rest: &mut [u64],
-) -> Pair
+) -> Option<(usize, usize)>
     requires windows { Windows (length words.now) step size count × FewWindows t step size count i }
     requires rest_len { length rest.old ≡ length words.now }
     ensures { result ≡ in_row (few_free table (word_at words.now) t (length words.now) step size) i
-        (start_of table i) (count - start_of table i) Clear }
+        (start_of table i) (count - start_of table i) None }
 {
     let mut sums = [0u64; 257];
     let mut marks = [0u8; 4096];
@@ -133,18 +129,17 @@ fn all_pairs(
     count: usize,
     t: usize,
     rest: &mut [u64],
-) -> Pair
+) -> Option<(usize, usize)>
     requires windows { Windows (length words.now) step size count × FewWindows t step size count 0 }
     requires rest_len { length rest.old ≡ length words.now }
     ensures { result ≡ first_failing (few_free table (word_at words.now) t (length words.now) step size) (start_of table) count }
 {
     for i in 0..count {
-        let Pair::Failing(a, b) = pairs_of(table, words, i, step, size, count, t, rest) else {
-            continue;
-        };
-        return Pair::Failing(a, b);
+        if let Some(pair) = pairs_of(table, words, i, step, size, count, t, rest) {
+            return Some(pair);
+        }
     }
-    Pair::Clear
+    None
 }
 
 // The same, by the pairs of the first window alone where the table is one of powers.
@@ -156,7 +151,7 @@ pub fn few_failing(
     count: usize,
     t: usize,
     rest: &mut [u64],
-) -> Pair
+) -> Option<(usize, usize)>
     requires windows { Windows (length words.now) step size count × FewWindows t step size count 0 }
     requires rest_len { length rest.old ≡ length words.now }
     requires digits32 { Digits32 words.now }

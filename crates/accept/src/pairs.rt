@@ -1,22 +1,19 @@
 // The answer of a search over pairs of windows or strips.
 ghost use Rattle.std.specs.Prelude.{◌≡◌};
+ghost use Rattle.plan.specs.Verdict.{told};
 ghost use Rattle.accept.specs.Pairs.{pair_verdict};
+ghost use Rattle.accept.specs.Windows.{condition_number};
 
-use plan::verdict::{Verdict, accept, refuse};
+use plan::table::Table;
+use plan::verdict::Refusal;
 
-// The first failing pair of starts, or none.
-#[derive(Clone, Copy)]
-pub enum Pair {
-    Failing(usize, usize),
-    Clear,
-}
-
-// The pair as the answer of check number.
-pub fn pair_verdict(number: usize, pair: Pair) -> Verdict
-    ensures { result ≡ pair_verdict number pair }
+// The first failing pair of starts, or none, as the answer of a table's check: 8 of V, 9 of H.
+pub fn pair_verdict(t: Table, pair: Option<(usize, usize)>) -> Result<(), Refusal>
+    ensures { told result ≡ pair_verdict (condition_number t) pair }
 {
-    match pair {
-        Pair::Failing(i, j) => refuse(number, i, j),
-        Pair::Clear => accept(),
+    match (t, pair) {
+        (_, None) => Ok(()),
+        (Table::Rows, Some((i, j))) => Err(Refusal::RowWindows(i, j)),
+        (Table::Columns, Some((a, b))) => Err(Refusal::ColumnStrips(a, b)),
     }
 }

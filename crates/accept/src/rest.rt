@@ -6,7 +6,6 @@ ghost use Rattle.plan.specs.Table.{word_at};
 ghost use Rattle.accept.specs.Windows.{WindowIn, Block, Prepared, Reduced};
 
 use gf2::{empty_basis, keep, sweep};
-use layout::compare::{larger, smaller};
 use plan::table::Table;
 
 // Of the row table: how many words of the window its basis takes in, and the words after it as that basis leaves them.
@@ -17,10 +16,8 @@ fn sweep_rest(words: &[u64], first: usize, size: usize, rest: &mut [u64]) -> usi
     let base = keep(empty_basis(), &words[first..first + size]);
     let members = base.words;
     let taken = base.taken;
-    let mut k = first + size;
-    while k < words.len() {
+    for k in first + size..words.len() {
         rest[k] = sweep(&members[..taken], words[k]);
-        k += 1;
     }
     taken
 }
@@ -30,21 +27,20 @@ fn differ_block(words: &[u64], first: usize, k: usize, n: usize, rest: &mut [u64
     requires { (first ≤ k) × (k + n ≤ length words.now) × (length rest.old ≡ length words.now) }
     ensures { Block (word_at words.now) first k n rest.old rest.new }
 {
-    let mut at = 0;
-    while at < n {
+    for at in 0..n {
         rest[k + at] = words[k + at] ^ words[first + at];
-        at += 1;
     }
 }
 
-// Of the column table: the words after the strip, each with the strip's word of the same remainder taken off. The strip itself asks nothing.
+// Of the column table: the words after the strip, each with the strip's word of the same remainder taken off. The strip itself
+// asks nothing. A block a turn, the last one shorter: no index is counted.
 pub fn differ_rest(words: &[u64], first: usize, size: usize, rest: &mut [u64]) -> usize
     requires { WindowIn (length words.now) first size × (length rest.old ≡ length words.now) }
     ensures { (result ≡ size) × Reduced words.now size first rest.new }
 {
     let mut k = first + size;
     while k < words.len() {
-        let n = smaller(size, words.len() - k);
+        let n = size.min(words.len() - k);
         differ_block(words, first, k, n, rest);
         k += n;
     }
@@ -68,7 +64,7 @@ pub fn pair_free(taken: usize, rest: &[u64], size: usize, first: usize, second: 
     ensures { result ≡ (eqb taken size && free_from [] (part (max (first + size) second) (second + size) rest.now)) }
 {
     let end = second + size;
-    let from = larger(first + size, second);
+    let from = (first + size).max(second);
     let more = keep(empty_basis(), &rest[from..end]);
     (taken == size) & (more.taken == end - from)
 }

@@ -1,12 +1,10 @@
 // The first failing pair of windows of a table, or of strips.
 ghost use Rattle.std.specs.Prelude.{◌≡◌, ◌-◌, ◌≤◌, length};
 ghost use Rattle.gf2.specs.Powers.{Digits32};
-ghost use Rattle.accept.specs.declared.pairs.Pair.TheVariants.{Clear};
 ghost use Rattle.accept.specs.Pairs.{in_row, first_failing};
 ghost use Rattle.plan.specs.Table.{word_at};
 ghost use Rattle.accept.specs.Windows.{windows_free, start_of, Windows};
 
-use crate::pairs::Pair;
 use crate::rest::{pair_free, prepare};
 use gf2::powers::are_powers;
 use plan::table::Table;
@@ -23,17 +21,24 @@ fn start_of(t: Table, i: usize) -> usize
 }
 
 // Of all pairs. Window i begins at the word i × step and has size words; there are count.
-fn search(t: Table, words: &[u64], step: usize, size: usize, count: usize, rest: &mut [u64]) -> Pair
+fn search(
+    t: Table,
+    words: &[u64],
+    step: usize,
+    size: usize,
+    count: usize,
+    rest: &mut [u64],
+) -> Option<(usize, usize)>
     requires { Windows (length words.now) step size count × (length rest.old ≡ length words.now) }
     ensures { result ≡ first_failing (windows_free t (word_at words.now) step size) (start_of t) count }
 {
-    let mut found = Pair::Clear;
+    let mut found = None;
     'search: for i in 0..count {
         let first = i * step;
         let taken = prepare(t, words, first, size, rest);
         for j in start_of(t, i)..count {
             if !pair_free(taken, rest, size, first, j * step) {
-                found = Pair::Failing(i, j);
+                found = Some((i, j));
                 break 'search;
             }
         }
@@ -49,17 +54,17 @@ fn first_row(
     size: usize,
     count: usize,
     rest: &mut [u64],
-) -> Pair
+) -> Option<(usize, usize)>
     requires { Windows (length words.now) step size count × (length rest.old ≡ length words.now) }
-    ensures { result ≡ in_row (windows_free t (word_at words.now) step size) 0 (start_of t 0) (count - start_of t 0) Clear }
+    ensures { result ≡ in_row (windows_free t (word_at words.now) step size) 0 (start_of t 0) (count - start_of t 0) None }
 {
     let taken = prepare(t, words, 0, size, rest);
     for j in start_of(t, 0)..count {
         if !pair_free(taken, rest, size, 0, j * step) {
-            return Pair::Failing(0, j);
+            return Some((0, j));
         }
     }
-    Pair::Clear
+    None
 }
 
 // Of all pairs, by the first row alone where the table is one of powers: a pair of windows then fails exactly if the pair as far apart that
@@ -71,7 +76,7 @@ pub fn first_failing(
     size: usize,
     count: usize,
     rest: &mut [u64],
-) -> Pair
+) -> Option<(usize, usize)>
     requires windows { Windows (length words.now) step size count × (length rest.old ≡ length words.now) }
     requires digits32 { Digits32 words.now }
     ensures { result ≡ first_failing (windows_free t (word_at words.now) step size) (start_of t) count }

@@ -8,7 +8,7 @@ ghost use Rattle.difference.specs.Difference.{row_part, difference, part_of};
 use buffers::call::scans_checks;
 use layout::cells::row_bytes;
 use layout::differ::first_different;
-use plan::entry::header_of;
+use plan::table::WORDS;
 
 // The bytes from start up to but not including end.
 #[derive(Clone, Copy)]
@@ -33,17 +33,15 @@ fn row_part(n2: usize, k: usize) -> Part
 pub fn differing_part(plan: &[u8], first: &[u8], second: &[u8]) -> Part
     ensures { result ≡ difference plan.now first.now second.now }
 {
-    let mut words = [0u64; 2792];
-    let verdict = scans_checks(plan, first, second, &mut words);
-    if verdict.number != 0 {
+    let mut words = [0u64; WORDS];
+    let Ok(accepted) = scans_checks(plan, first, second, &mut words) else {
         return Part { start: 0, end: 0 };
-    }
-    let h = header_of(plan);
+    };
     let k = first_different(first, second);
     if k == second.len() {
         return Part { start: 0, end: 0 };
     }
-    row_part(h.n2, k)
+    row_part(accepted.view.header.n2, k)
 }
 
 // That row, as it lies in the second scan.

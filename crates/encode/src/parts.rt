@@ -36,10 +36,8 @@ pub(crate) fn put_table(words: &[u64], count: usize, at: usize, plan: &mut [u8])
     requires count_in_bounds_2 { at + 4 * count ≤ length plan.old }
     ensures { plan.new ≡ overwritten plan.old at (table_bytes count (word_at words.now)) }
 {
-    let mut k = 0;
-    while k < count {
-        put_u32(plan, at + 4 * k, words[k]);
-        k += 1;
+    for (k, word) in words[..count].iter().enumerate() {
+        put_u32(plan, at + 4 * k, *word);
     }
 }
 
@@ -51,12 +49,9 @@ pub(crate) fn put_list(cells: &[usize], n2: usize, count: usize, at: usize, plan
     ensures { plan.new
         ≡ overwritten plan.old at (list_bytes count (λ k. word_at cells.now k / n2) (λ k. word_at cells.now k % n2)) }
 {
-    let mut k = 0;
-    while k < count {
-        let cell = cells[k];
-        let row = cell / n2;
-        let column = cell % n2;
+    for (k, cell) in cells[..count].iter().enumerate() {
+        let row = *cell / n2;
+        let column = *cell % n2;
         put_pair(row, column, at + 4 * k, plan);
-        k += 1;
     }
 }

@@ -7,15 +7,19 @@ ghost use Rattle.encode.specs.Encode.{plan_bytes};
 
 use crate::parts::{put_header, put_list, put_table};
 use plan::header::{Header, LENGTH};
+use plan::table::WORDS;
 
 // The bytes of a plan with this header, these tables and these check cells, each cell a number in sheet order.
-pub fn encode(h: Header, rows: &[u64], columns: &[u64], cells: &[usize], plan: &mut [u8])
+pub fn encode(
+    h: Header,
+    rows: &[u64; WORDS],
+    columns: &[u64; WORDS],
+    cells: &[usize; 64],
+    plan: &mut [u8],
+)
     requires small { Small h }
     requires h_value { h ≡ ruled h }
     requires plan_len { length plan.old ≡ plan_length h }
-    requires rows_len { length rows.now ≡ 2792 }
-    requires columns_len { length columns.now ≡ 2792 }
-    requires cells_len { length cells.now ≡ 64 }
     ensures { plan.new
         ≡ plan_bytes h (code_from h (word_at rows.now) (word_at columns.now)
         (λ k. word_at cells.now k / h.n2) (λ k. word_at cells.now k % h.n2)) }

@@ -1,6 +1,7 @@
 -- Laws of `reduced`: what is left of a number when words of a list are taken off.
 --
 --   top-place            the place of the leading digit
+--   log-top              it is what the code's `ilog2` gives
 --   reduced-more         where the word at the leading digit makes the number smaller, it is taken off
 --   reduced-done         where it does not, the number is left
 --   reduced-stuck        of what is left, no word can be taken off
@@ -11,11 +12,13 @@
 use mathlib.Core.Path.{◌≡◌, refl, sym, ap, ◌∙◌}
 use mathlib.Core.Bool.{Bool, true, false, cond}
 use mathlib.Core.List.{List, [], ◌∷◌}
-use Prim.Native.Nat.{ℕ, zero, suc, ◌-◌, ◌^◌, ◌≤◌, ◌<◌}
+use Prim.Native.Nat.{ℕ, zero, suc, ◌-◌, ◌*◌, ◌^◌, ◌≤◌, ◌<◌}
 use native.Mathlib.Nat.{le_refl}
+use Rattle.std.proofs.Math.Nat.{two-pow-succ}
 use native.Mathlib.Omega.{arith}
 use borrow.Author.Tests.{ltb-true, ltb-false, lt-ltb, le-ltb}
 use lib.Count.{count_leading_zeros, leading_top}
+use Rattle.std.specs.Int.Count.{leading_unique}
 use lib.Dec.{ltb}
 use lib.ListN.{get_or}
 use Rattle.gf2.specs.Xor.{◌⊕◌}
@@ -36,9 +39,13 @@ top-place v p h =
     let e : t.0 ≡ 63 - count_leading_zeros 64 v = omega (arith, t.1) in
     rw (← e) (record { inside = omega (arith, t.1); low = t.2; high = t.3 })
 
--- 63 - count_leading_zeros does not wrap
-pub top-fits : (v : ℕ) → 0 < v → v < 2 ^ 64 → count_leading_zeros 64 v ≤ 63
-top-fits v p h = let t = leading_top 64 v p h in omega (arith, t.1)
+-- what the code's `ilog2` gives
+pub log-top : (v k : ℕ) → 2 ^ k ≤ v → v < 2 * 2 ^ k → k < 64 → k ≡ top v
+unfolding top
+log-top v k low high l =
+    let d = two-pow-succ k in
+    let e = leading_unique 64 v (63 - k) (suc k) (omega arith) (omega arith) (omega arith) in
+    omega arith
 
 -- enough steps are as good as more
 settled-enough : (f g : ℕ) (b : List ℕ) (v : ℕ) → v ≤ f → v ≤ g → settled f b v ≡ settled g b v

@@ -9,6 +9,7 @@
 use mathlib.Core.Path.{◌≡◌, refl, sym, ap, ◌∙◌}
 use mathlib.Core.Bool.{Bool, true, false, not, cond}
 use mathlib.Core.List.{List, [], ◌∷◌, ◌++◌, reverse_aux, reverse_aux-append, append-nil}
+use Rattle.std.specs.Prelude.{Some, None}
 use Prim.Native.Nat.{ℕ, zero, suc, ◌+◌, ◌^◌, ◌≤◌, ◌<◌}
 use native.Mathlib.Nat.{zero-lt-suc}
 use native.Mathlib.Decide.{ℕ_discrete}
@@ -23,7 +24,6 @@ use Rattle.finite.specs.Search.{least}
 use Rattle.gf2.specs.Vectors.{spans, free_from}
 use Rattle.gf2.specs.Basis.{top, reduced, inserted}
 use Rattle.gf2.specs.Solver.{combination, combined, solved, solver_from, solver_of, solution}
-use Rattle.gf2.specs.declared.Solution.TheVariants.{Combination, Outside}
 use Rattle.finite.proofs.Truth.{both}
 use Rattle.gf2.proofs.Xor.{xor_self, xor-cancel, xor_zero_left, xor_zero_right}
 use Rattle.finite.proofs.Search.{least-is}
@@ -152,11 +152,11 @@ module _ (vs : List ℕ) (few : length vs ≤ 64) (below : Below 64 vs) (f : fre
   solver-solves = rw left_is (go (spans vs target) answer-least)
     where
       go : (s : Bool) → (s ≡ true → least (2 ^ length vs) (λ y. eqb (combination vs y) target) ≡ answer)
-          → cond s (Combination (combined (solver_of vs).basis (solver_of vs).combos target 0)) Outside
-          ≡ cond s (Combination (least (2 ^ length vs) (λ y. eqb (combination vs y) target))) Outside
-      go true h = ap Combination (sym (h refl))
+          → cond s (Some (combined (solver_of vs).basis (solver_of vs).combos target 0)) None
+          ≡ cond s (Some (least (2 ^ length vs) (λ y. eqb (combination vs y) target))) None
+      go true h = ap Some (sym (h refl))
       go false h = refl
 
-  pub solution-found : spans vs target ≡ true → (y : ℕ) × (solution vs target ≡ Combination y) × (y < 2 ^ length vs) × (combination vs y ≡ target)
+  pub solution-found : spans vs target ≡ true → (y : ℕ) × (solution vs target ≡ Some y) × (y < 2 ^ length vs) × (combination vs y ≡ target)
   unfolding solution
   solution-found e = (answer, rw (e, answer-least e), answer-below, answer-makes e)

@@ -5,6 +5,7 @@
 --   swept-xor       so is `swept`
 --   swept-append    by one word more
 --   swept-more      by one word more of the first ones
+--   swept-pair      by the two words of pair i, as the code has pairs
 --   swept-next, swept-end    by the words from place i on, as a loop goes
 --   sweep-none      no words take off what no vectors span
 --   sweep-more      a vector as the words leave it is the word that is missing for it
@@ -17,7 +18,7 @@ use mathlib.Core.Bool.{Bool, ◌||◌}
 use mathlib.Core.List.{List, [], ◌∷◌, ◌++◌, reverse_aux, map}
 use mathlib.Core.Logic.{⊎_elim}
 use Prim.Native.Nat.{ℕ, zero, suc, ◌+◌, ◌*◌, ◌/◌, ◌%◌, ◌^◌, ◌≤◌, ◌<◌, min}
-use native.Mathlib.Nat.{mod-lt, zero-lt-suc, eq-zero-or-pos, div-eq_of_lt-le}
+use native.Mathlib.Nat.{mod-lt, suc-mul, zero-lt-suc, eq-zero-or-pos, div-eq_of_lt-le}
 use native.Mathlib.Decide.{dec_le}
 use native.Mathlib.Numerals.{add-one}
 use native.Mathlib.Omega.{arith}
@@ -28,6 +29,8 @@ use lib.Dec.{eqb, eqb-suc-zero}
 use lib.ListN.{length, get_or, take, drop, drop_of_length-le}
 use lib.Pow.{pow_pos, shr_mono}
 use lib.Seq.{drop-cons}
+use Rattle.std.specs.Simd.{first_chunks}
+use Rattle.std.proofs.lemmas.List.{get_or-take, get_or-drop, length-take}
 use Rattle.gf2.specs.Xor.{◌⊕◌, pick}
 use Rattle.gf2.specs.Vectors.{spans, free_from}
 use Rattle.finite.specs.Search.{bit}
@@ -111,6 +114,26 @@ swept-take ws i x = rw (add-one i) (go ws i x)
 
 pub swept-more : (ws : List ℕ) (i x : ℕ) {s r : ℕ} → s ≡ swept (take i ws) x → r ≡ min s (s ⊕ get_or ws i 0) → r ≡ swept (take (i + 1) ws) x
 swept-more ws i x e f = f ∙ ap (λ (y : ℕ). min y (y ⊕ get_or ws i 0)) e ∙ sym (swept-take ws i x)
+
+-- word j of chunk i
+in-chunk : (n k : ℕ) (ws : List ℕ) (i j : ℕ) → i < k → j < n → get_or (get_or (first_chunks n k ws) i []) j 0 ≡ get_or ws (i * n + j) 0
+in-chunk n zero ws i j l m = absurd (omega arith)
+in-chunk n (suc k) ws zero j l m = get_or-take n ws j 0 m ∙ ap (λ (e : ℕ). get_or ws e 0) (omega arith)
+in-chunk n (suc k) ws (suc i) j l m =
+    in-chunk n k (drop n ws) i j (omega arith) m ∙ get_or-drop n ws (i * n + j) 0 ∙ ap (λ (e : ℕ). get_or ws e 0) (omega (arith, suc-mul i n))
+
+pub swept-pair : (ws : List ℕ) (k d i x : ℕ) {cs : List (List ℕ)} {s r q : ℕ} → cs ≡ first_chunks 2 k ws → length cs ≡ k → i < length (take d cs)
+    → s ≡ swept (take (i * 2) ws) x → r ≡ min s (s ⊕ get_or (get_or (take d cs) i []) 0 0) → q ≡ min r (r ⊕ get_or (get_or (take d cs) i []) 1 0)
+    → q ≡ swept (take ((i + 1) * 2) ws) x
+swept-pair ws k d i x {cs} {s} {r} {q} e b l h f g =
+    let a = length-take d cs in
+    let at = get_or-take d cs i [] (omega arith) ∙ ap (λ (u : List (List ℕ)). get_or u i []) e in
+    let word : (j : ℕ) → j < 2 → get_or (get_or (take d cs) i []) j 0 ≡ get_or ws (i * 2 + j) 0 =
+    λ j m. ap (λ (u : List ℕ). get_or u j 0) at ∙ in-chunk 2 k ws i j (omega arith) m in
+    let first = swept-more ws (i * 2) x h (f ∙ ap (λ (w : ℕ). min s (s ⊕ w)) (word 0 (omega arith) ∙ ap (λ (e : ℕ). get_or ws e 0) (omega arith))) in
+    let second = swept-more ws (i * 2 + 1) x first (g ∙ ap (λ (w : ℕ). min r (r ⊕ w)) (word 1 (omega arith))) in
+    let two : i * 2 + 1 + 1 ≡ (i + 1) * 2 = omega arith in
+    rw two at second
 
 pub swept-next : (ws : List ℕ) (i x : ℕ) → i < length ws → swept (drop i ws) x ≡ swept (drop (suc i) ws) (min x (x ⊕ get_or ws i 0))
 swept-next ws i x l = rw (drop-cons ws i 0 l) (unfold swept in refl)

@@ -1,28 +1,26 @@
 -- Which of the vectors sum to a target.
 --
 --   combination vs y      the exclusive-or of those vs whose digit is set in y
---   solution vs target    the number of the combination that makes the target, or Outside where there is none
+--   solution vs target    the number of the combination that makes the target, or None where there is none
 --   combined b c v y      y and the combinations c of the words b that reducing v takes off
 --   solved b c target     the solution by words b and their combinations c
 --   solver_of vs          the words of a basis of vs with the combination of vs that makes each; it stops at the first
 --                         vector that those before it span, and after 64
 --
 -- The law that joins them, `solver-solves`, is in proofs/Solving.antt.
-use Rattle.std.specs.Prelude.{ℕ, zero, suc, ◌^◌, cond, List, [], ◌∷◌, eqb, ltb, leb, length, get_or, set, replicate}
+use Rattle.std.specs.Prelude.{ℕ, zero, suc, ◌^◌, cond, Option, Some, None, List, [], ◌∷◌, eqb, ltb, leb, length, get_or, set, replicate}
 use Rattle.gf2.specs.Xor.{◌⊕◌}
 use Rattle.gf2.specs.Sum.{chosen_sum}
 use Rattle.finite.specs.Search.{bit, least}
 use Rattle.gf2.specs.Vectors.{spans}
 use Rattle.gf2.specs.Basis.{top, lowered, reduced, inserted}
 use Rattle.gf2.specs.declared.Solver.{Solver}
-use Rattle.gf2.specs.declared.Solution.{Solution}
-use Rattle.gf2.specs.declared.Solution.TheVariants.{Combination, Outside}
 
 unfoldable pub combination : List ℕ → ℕ → ℕ
 combination vs y = chosen_sum (length vs) (bit y) (λ i. get_or vs i 0)
 
-unfoldable pub solution : List ℕ → ℕ → Solution
-solution vs target = cond (spans vs target) (Combination (least (2 ^ length vs) (λ y. eqb (combination vs y) target))) Outside
+unfoldable pub solution : List ℕ → ℕ → Option ℕ
+solution vs target = cond (spans vs target) (Some (least (2 ^ length vs) (λ y. eqb (combination vs y) target))) None
 
 -- at most n words, as in `settled`
 unfoldable pub gathered : ℕ → List ℕ → List ℕ → ℕ → ℕ → ℕ
@@ -32,8 +30,8 @@ gathered (suc n) b c v y = cond (ltb (lowered b v) v) (gathered n b c (lowered b
 unfoldable pub combined : List ℕ → List ℕ → ℕ → ℕ → ℕ
 combined b c v y = gathered v b c v y
 
-unfoldable pub solved : List ℕ → List ℕ → ℕ → Solution
-solved b c target = cond (eqb (reduced b target) 0) (Combination (combined b c target 0)) Outside
+unfoldable pub solved : List ℕ → List ℕ → ℕ → Option ℕ
+solved b c target = cond (eqb (reduced b target) 0) (Some (combined b c target 0)) None
 
 -- i vectors are in already
 unfoldable pub solver_from : List ℕ → List ℕ → List ℕ → ℕ → Solver

@@ -9,7 +9,7 @@
 
 pub mod powers;
 
-ghost use Rattle.std.specs.Prelude.{◌≡◌, true, [], ◌≤◌, ◌<◌, min, length, take};
+ghost use Rattle.std.specs.Prelude.{◌≡◌, true, [], ◌≤◌, ◌<◌, length, take};
 ghost use Rattle.gf2.specs.Vectors.{free_from};
 ghost use Rattle.gf2.specs.Basis.{empty_words, reduced};
 ghost use Rattle.gf2.specs.Solver.{solution, combined, solved, solver_of};
@@ -36,13 +36,6 @@ struct Solver {
     combos: [u64; 64],
 }
 
-// The combination of members that makes a target, or that there is none.
-#[derive(Clone, Copy)]
-pub enum Solution {
-    Combination(u64),
-    Outside,
-}
-
 // What is left of v: the word at its leading digit is taken off as long as that makes it smaller. The combination of each word that is
 // taken off is gathered in y.
 fn reduce_combined(basis: &[u64; 64], combos: &[u64; 64], v: u64, y: u64) -> Residue
@@ -51,7 +44,7 @@ fn reduce_combined(basis: &[u64; 64], combos: &[u64; 64], v: u64, y: u64) -> Res
     let mut left = v;
     let mut combo = y;
     while left != 0 {
-        let k = (63 - u64::leading_zeros(left)) as usize;
+        let k = left.ilog2() as usize;
         let next = left ^ basis[k];
         if left <= next {
             return Residue { left, combo };
@@ -68,46 +61,38 @@ fn solver_of(members: &[u64]) -> Solver
 {
     let mut basis = [0u64; 64];
     let mut combos = [0u64; 64];
-    let mut i = 0;
-    while i < members.len() {
+    for (i, member) in members.iter().enumerate() {
         if 64 <= i {
             return Solver { basis, combos };
         }
-        let r = reduce_combined(&basis, &combos, members[i], 1 << i);
+        let r = reduce_combined(&basis, &combos, *member, 1 << i);
         let left = r.left;
         if left == 0 {
             return Solver { basis, combos };
         }
-        let k = (63 - u64::leading_zeros(left)) as usize;
+        let k = left.ilog2() as usize;
         basis[k] = left;
         combos[k] = r.combo;
-        i += 1;
     }
     Solver { basis, combos }
 }
 
 // The combination of members that makes the target, by a solver's words and combinations.
-fn solve(basis: &[u64; 64], combos: &[u64; 64], target: u64) -> Solution
+fn solve(basis: &[u64; 64], combos: &[u64; 64], target: u64) -> Option<u64>
     ensures { result ≡ solved basis.now combos.now target }
 {
     let r = reduce_combined(basis, combos, target, 0);
-    if r.left == 0 {
-        Solution::Combination(r.combo)
-    } else {
-        Solution::Outside
-    }
+    if r.left == 0 { Some(r.combo) } else { None }
 }
 
 // The combination of the members that makes the target, or that there is none. The members are independent, so there is at most one.
-pub fn find_combination(members: &[u64], target: u64) -> Solution
+pub fn find_combination(members: &[u64], target: u64) -> Option<u64>
     requires members_len_bound { length members.now ≤ 64 }
     requires members_value { free_from [] members.now ≡ true }
     ensures { result ≡ solution members.now target }
 {
     let solver = solver_of(members);
-    let basis = solver.basis;
-    let combos = solver.combos;
-    solve(&basis, &combos, target)
+    solve(&solver.basis, &solver.combos, target)
 }
 
 // A basis: words to take off numbers one after another, the first `taken` of the array, and how many members they are of.
@@ -117,21 +102,13 @@ pub struct Kept {
     pub taken: usize,
 }
 
-fn lesser(a: u64, b: u64) -> u64
-    ensures { result ≡ min a b }
-{
-    if b < a { b } else { a }
-}
-
 // What is left of v: each word is taken off where that makes it smaller. It has no branch that depends on the numbers.
 pub fn sweep(words: &[u64], v: u64) -> u64
     ensures { result ≡ swept words.now v }
 {
     let mut left = v;
-    let mut i = 0;
-    while i < words.len() {
-        left = lesser(left, left ^ words[i]);
-        i += 1;
+    for word in words {
+        left = left.min(left ^ *word);
     }
     left
 }
@@ -141,12 +118,11 @@ fn sweep_pairs(words: &[u64; 64], count: usize, v: u64) -> u64
     requires { count < 64 }
     ensures { result ≡ swept (take (even_up count) words.now) v }
 {
+    let (pairs, _) = words.as_chunks::<2>();
     let mut left = v;
-    let mut i = 0;
-    while i < count {
-        left = lesser(left, left ^ words[i]);
-        left = lesser(left, left ^ words[i + 1]);
-        i += 2;
+    for [one, next] in &pairs[..count.div_ceil(2)] {
+        left = left.min(left ^ *one);
+        left = left.min(left ^ *next);
     }
     left
 }
@@ -161,10 +137,9 @@ pub fn keep(words: [u64; 64], members: &[u64]) -> Kept
     let mut kept = words;
     let mut last = 0u64;
     let mut older = 0;
-    let mut i = 0;
-    while i < members.len() {
-        let swept = sweep_pairs(&kept, older, members[i]);
-        let residue = lesser(swept, swept ^ last);
+    for (i, member) in members.iter().enumerate() {
+        let swept = sweep_pairs(&kept, older, *member);
+        let residue = swept.min(swept ^ last);
         if residue == 0 {
             return Kept {
                 words: kept,
@@ -174,10 +149,9 @@ pub fn keep(words: [u64; 64], members: &[u64]) -> Kept
         kept[i] = residue;
         last = residue;
         older = i;
-        i += 1;
     }
     Kept {
         words: kept,
-        taken: i,
+        taken: members.len(),
     }
 }

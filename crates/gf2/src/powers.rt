@@ -2,15 +2,13 @@
 ghost use Rattle.std.specs.Prelude.{◌≡◌, ◌^◌, ◌≤◌, ◌<◌, length};
 ghost use Rattle.gf2.specs.Powers.{times_z, polynomial, PowersIn, first_break, modulus_of, are_powers, Digits32};
 
-use crate::lesser;
-
 // z times x modulo the polynomial p.
 fn times_z(p: u64, x: u64) -> u64
     requires { x < 4294967296 }
     ensures { result ≡ times_z p x }
 {
     let twice = 2 * x;
-    lesser(twice, twice ^ p)
+    twice.min(twice ^ p)
 }
 
 // The powers of z into the first count words: 1, and then z times the one before, modulo the polynomial of this degree whose
@@ -22,11 +20,9 @@ pub fn fill_powers(degree: usize, low: u64, count: usize, words: &mut [u64])
 {
     let p = (1u64 << degree) + low;
     let mut x = 1;
-    let mut k = 0;
-    while k < count {
-        words[k] = x;
+    for word in &mut words[..count] {
+        *word = x;
         x = times_z(p, x);
-        k += 1;
     }
 }
 
@@ -35,14 +31,13 @@ fn first_break(p: u64, words: &[u64]) -> usize
     requires { Digits32 words.now }
     ensures { result ≡ first_break p words.now }
 {
-    let mut k = 0;
-    while k + 1 < words.len() {
+    let steps = words.len().saturating_sub(1);
+    for k in 0..steps {
         if times_z(p, words[k]) != words[k + 1] {
             return k;
         }
-        k += 1;
     }
-    k
+    steps
 }
 
 // A polynomial by which the words may be powers: modulo 0 a word is doubled, and where that breaks first, this was taken off.

@@ -30,9 +30,8 @@ pub fn lay_columns(words: &mut [u64])
     ensures { PowersIn house_polynomial house_entries words.old words.new }
 {
     let table = columns();
-    let mut k = 0;
-    while k < ENTRIES {
-        words[k] = table[k] as u64;
-        k += 1;
+    for (k, entry) in table.iter().enumerate() {
+        let word = u64::from(*entry);
+        words[k] = word;
     }
 }

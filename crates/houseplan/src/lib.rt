@@ -2,6 +2,7 @@
 #![tactic(auto)]
 
 ghost use Rattle.std.specs.Prelude.{◌≡◌, length};
+ghost use Rattle.plan.specs.Verdict.{told};
 ghost use Rattle.maker.specs.Make.{given_checks, made, make};
 ghost use Rattle.houseplan.specs.HousePlan.{house_parameters};
 
@@ -9,7 +10,8 @@ use gf2::powers::fill_powers;
 use house::{DEGREE, LOW, lay_columns};
 use maker::making::make_filled;
 use maker::parameters::{Parameters, given_checks};
-use plan::verdict::Verdict;
+use plan::table::WORDS;
+use plan::verdict::Refusal;
 
 // The house numbers: 512 rows, 698 columns, bursts of 3 by 3, and a polynomial for each table.
 fn parameters() -> Parameters
@@ -29,25 +31,22 @@ fn parameters() -> Parameters
 }
 
 // Lays out the tables, once the buffer has the right length: nothing is worked out before.
-fn make_checked(plan: &mut [u8]) -> Verdict
+fn make_checked(plan: &mut [u8]) -> Result<(), Refusal>
     requires { (given_checks house_parameters (length plan.old)).number ≡ 0 }
-    ensures { made result plan.new ≡ make house_parameters plan.old }
+    ensures { made (told result) plan.new ≡ make house_parameters plan.old }
 {
     let g = parameters();
-    let mut rows = [0u64; 2792];
-    let mut columns = [0u64; 2792];
+    let mut rows = [0u64; WORDS];
+    let mut columns = [0u64; WORDS];
     fill_powers(g.rv, g.vlow, g.n1 * g.b2, &mut rows);
     lay_columns(&mut columns);
     make_filled(g, &rows, &columns, plan)
 }
 
 // Makes the house plan, or turns back with the buffer as it was.
-pub fn make_house(plan: &mut [u8]) -> Verdict
-    ensures { made result plan.new ≡ make house_parameters plan.old }
+pub fn make_house(plan: &mut [u8]) -> Result<(), Refusal>
+    ensures { made (told result) plan.new ≡ make house_parameters plan.old }
 {
-    let given = given_checks(parameters(), plan.len());
-    if given.number != 0 {
-        return given;
-    }
+    given_checks(parameters(), plan.len())?;
     make_checked(plan)
 }

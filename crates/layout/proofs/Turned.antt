@@ -24,7 +24,7 @@ use lib.Dec.{eqb}
 use lib.ListN.{length, get_or, set, length-set}
 use lib.Seq.{get_or-set_same, get_or-set_other}
 use lib.Pow.{pow-lt, shl_exact}
-use mir.Val.{bool_byte}
+use Rattle.std.specs.Int.{from_bool}
 use Rattle.finite.specs.Search.{bit}
 use Rattle.finite.proofs.Digits.{bit-power}
 use Rattle.finite.proofs.Truth.{xor-none}
@@ -141,7 +141,7 @@ pub byte-stays : (b : Bool) (n2 i j k x : ℕ) → (byte_of n2 i j ≡ k → ⊥
 byte-stays true n2 i j k x h = rw (ne_eqb (byte_of n2 i j) k h)
 byte-stays false n2 i j k x h = refl
 
-pub bit-turned : (x j : ℕ) (b : Bool) → bit_xor x (bool_byte b * 2 ^ (j % 8) % 256) ≡ cond b (x ⊕ 2 ^ (j % 8)) x
+pub bit-turned : (x j : ℕ) (b : Bool) → bit_xor x (from_bool b * 2 ^ (j % 8) % 256) ≡ cond b (x ⊕ 2 ^ (j % 8)) x
 unfolding ◌⊕◌
 bit-turned x j true = rw (shl_exact {a = 1} 1 (j % 8) 8 (omega arith) (omega arith), one-mul (2 ^ (j % 8)))
 bit-turned x j false = rw (zero-mul (2 ^ (j % 8)), xor_zero_r x)

@@ -2,7 +2,7 @@
 ghost use Rattle.std.specs.Prelude.{◌≡◌, ◌^◌, ◌≤◌, ◌<◌, length, replicate};
 ghost use Rattle.layout.specs.Cells.{row_bytes, sheet_bytes, byte_of, cell_of, first_unused, turned, turned_if, byte_turned};
 
-// The bytes of a row of n2 cells.
+// The bytes of a row of n2 cells. Not by `div_ceil`: it takes the remainder too, 5 instructions where this takes 2, at each cell looked up.
 pub fn row_bytes(n2: usize) -> usize
     requires { n2 ≤ 1000000 }
     ensures { result ≡ row_bytes n2 }
@@ -33,7 +33,7 @@ pub fn turn(s: &mut [u8], n2: usize, i: usize, j: usize)
     ensures { s.new ≡ turned n2 s.old i j }
 {
     let k = byte_of(n2, i, j);
-    s[k] = s[k] ^ (1 << (j % 8));
+    s[k] ^= 1 << (j % 8);
 }
 
 // Turns cell (i, j) over if it is asked for; no branch.
@@ -42,7 +42,7 @@ pub fn turn_if(s: &mut [u8], n2: usize, i: usize, j: usize, asked: bool)
     ensures { s.new ≡ turned_if asked n2 s.old i j }
 {
     let k = byte_of(n2, i, j);
-    s[k] = s[k] ^ ((asked as u8) << (j % 8));
+    s[k] ^= u8::from(asked) << (j % 8);
 }
 
 // What byte k becomes, of the value x, if cell (i, j) is turned over where that is asked for: another byte stays as it is.
@@ -53,18 +53,14 @@ pub fn byte_turned(x: u8, k: usize, n2: usize, i: usize, j: usize, asked: bool) 
     if byte_of(n2, i, j) != k {
         return x;
     }
-    x ^ ((asked as u8) << (j % 8))
+    x ^ (u8::from(asked) << (j % 8))
 }
 
 // All cells light.
 pub fn clear(s: &mut [u8])
     ensures { s.new ≡ replicate (length s.old) 0 }
 {
-    let mut k = 0;
-    while k < s.len() {
-        s[k] = 0;
-        k += 1;
-    }
+    s.fill(0);
 }
 
 // The first byte with an unused bit that is 1, or the number of bytes. Only the last byte of a row has unused bits.
@@ -77,13 +73,11 @@ pub fn first_unused(s: &[u8], n1: usize, n2: usize) -> usize
         return 0;
     }
     let limit = 1usize << (n2 + 8 - 8 * size);
-    let mut i = 0;
-    while i < n1 {
+    for i in 0..n1 {
         let k = i * size + (size - 1);
-        if limit <= s[k] as usize {
+        if limit <= usize::from(s[k]) {
             return k;
         }
-        i += 1;
     }
     s.len()
 }

@@ -9,10 +9,8 @@ fn same_block(s: &[u8], t: &[u8], at: usize) -> bool
     ensures { result ≡ not (any_below 64 (λ j. differ_at s.now t.now (at + j))) }
 {
     let mut seen = 0u8;
-    let mut j = 0;
-    while j < 64 {
-        seen = seen | (s[at + j] ^ t[at + j]);
-        j += 1;
+    for j in 0..64 {
+        seen |= s[at + j] ^ t[at + j];
     }
     seen == 0
 }
@@ -22,14 +20,13 @@ fn same_blocks(s: &[u8], t: &[u8]) -> usize
     requires { length s.now ≡ length t.now }
     ensures { AgreeUpTo s.now t.now result }
 {
-    let mut k = 0;
-    while 64 <= s.len() - k {
-        if !same_block(s, t, k) {
-            return k;
+    let blocks = s.len() / 64;
+    for b in 0..blocks {
+        if !same_block(s, t, 64 * b) {
+            return 64 * b;
         }
-        k += 64;
     }
-    k
+    64 * blocks
 }
 
 // The first byte at which s and t differ, or their length.
@@ -37,12 +34,10 @@ pub fn first_different(s: &[u8], t: &[u8]) -> usize
     requires { length s.now ≡ length t.now }
     ensures { result ≡ first_different s.now t.now }
 {
-    let mut k = same_blocks(s, t);
-    while k < s.len() {
+    for k in same_blocks(s, t)..s.len() {
         if s[k] != t[k] {
             return k;
         }
-        k += 1;
     }
-    k
+    s.len()
 }

@@ -1,9 +1,8 @@
-// What stands in the bytes of a plan and of a sheet: numbers, low byte first, and cells, in either layout; the larger of two numbers, the
-// next of some places, and where two strings of bytes first differ.
+// What stands in the bytes of a plan and of a sheet: numbers, low byte first, and cells, in either layout; the next of some places, and
+// where two strings of bytes first differ.
 #![tactic(auto)]
 
 pub mod cells;
-pub mod compare;
 pub mod cycle;
 pub mod differ;
 pub mod number;

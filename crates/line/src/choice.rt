@@ -7,6 +7,7 @@ use crate::parts::plan_size;
 use accept::test::test;
 use plan::entry::header_of;
 use plan::header::LENGTH;
+use plan::table::WORDS;
 use reader::search::Search;
 
 // The most cells of a plan that is read by trial (02 j).
@@ -30,12 +31,11 @@ fn search_under(plan: &[u8]) -> Search
     if SMALL < h.n1 * h.n2 {
         return Search::ByWindow;
     }
-    let mut words = [0u64; 2792];
-    let tested = test(plan, &mut words);
-    if tested.number != 0 {
-        return Search::ByWindow;
+    let mut words = [0u64; WORDS];
+    match test(plan, &mut words) {
+        Ok(_) => Search::ByTrial,
+        Err(_) => Search::ByWindow,
     }
-    Search::ByTrial
 }
 
 // Of the bytes that the program is given.

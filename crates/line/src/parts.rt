@@ -5,7 +5,6 @@ ghost use Rattle.line.specs.Line.{plan_size};
 ghost use Rattle.line.specs.Parts.{DataSize};
 
 use layout::cells::row_bytes;
-use layout::compare::{larger, smaller};
 use layout::number::u16_at;
 use plan::entry::header_of;
 use plan::header::LENGTH;
@@ -17,7 +16,7 @@ pub fn plan_size(input: &[u8]) -> usize
     if input.len() < LENGTH {
         return input.len();
     }
-    smaller(input.len(), larger(LENGTH, u16_at(input, 18)))
+    u16_at(input, 18).max(LENGTH).min(input.len())
 }
 
 // The bytes of data, where the plan is accepted. A plan that is not is refused whatever the data.
@@ -53,10 +52,6 @@ pub fn copy(from: &[u8], to: &mut [u8]) -> usize
     requires { length from.now ≤ length to.old }
     ensures { Put to.old 0 from.now to.new result }
 {
-    let mut i = 0;
-    while i < from.len() {
-        to[i] = from[i];
-        i += 1;
-    }
-    i
+    to[..from.len()].copy_from_slice(from);
+    from.len()
 }

@@ -36,7 +36,7 @@ fn put_data(out: &mut [u8], n: usize, bits: &[u8]) -> usize
     ensures put { Put out.old n (data_field bits.now) out.new result }
     ensures upper_bound { result ≤ n + 1 + 2 * length bits.now }
 {
-    if bits.len() == 0 {
+    if bits.is_empty() {
         return n;
     }
     let m = put_byte(out, n, 32);

@@ -25,12 +25,10 @@ fn read_line(by: Search, plan: &[u8], sheet: &mut [u8], bits: &mut [u8], out: &m
     ensures put { Put out.old 0 (line_from (read_outcome plan.now sheet.old bits.old)) out.new result }
     ensures upper_bound { result ≤ length out.old }
 {
-    let answer = read(by, Layout::ByRow, plan, sheet, bits);
-    let verdict = answer.verdict;
-    if verdict.number != 0 {
-        return put_no(out, verdict);
+    match read(by, Layout::ByRow, plan, sheet, bits) {
+        Ok(report) => put_ok(out, report, bits),
+        Err(refusal) => put_no(out, refusal.told()),
     }
-    put_ok(out, answer.report, bits)
 }
 
 // The line, at the start of out, the same whichever way the burst is searched for. The sheet is read in a copy, so that the input stays as it is.

@@ -1,10 +1,11 @@
 // What a plan is made from, and the checks that look at nothing else.
 ghost use Rattle.std.specs.Prelude.{◌≡◌, ◌≤◌};
+ghost use Rattle.plan.specs.Verdict.{told};
 ghost use Rattle.maker.specs.Make.{numbers_of, bad_polynomial, given_checks};
 
 use plan::form::{offsets_verdict, sizes_verdict};
 use plan::header::{Header, ruled};
-use plan::verdict::{Verdict, refuse_if};
+use plan::verdict::{Refusal, refuse_if};
 
 // The sizes of the sheet and of a burst, and the most cells of a burst, or 0 for any; and of each table the degree of its polynomial, rv or rh,
 // and the coefficients below that, digit i for the power i.
@@ -49,18 +50,12 @@ fn bad_polynomial(degree: usize, low: u64) -> bool
 }
 
 // Checks 2, 3, 4, 23, 5 and 15, of a plan buffer of size bytes.
-pub fn given_checks(g: Parameters, size: usize) -> Verdict
-    ensures { result ≡ given_checks g size }
+pub fn given_checks(g: Parameters, size: usize) -> Result<(), Refusal>
+    ensures { told result ≡ given_checks g size }
 {
     let h = numbers(g);
-    let sizes = sizes_verdict(h);
-    if sizes.number != 0 {
-        return sizes;
-    }
-    let offsets = offsets_verdict(size, ruled(h));
-    if offsets.number != 0 {
-        return offsets;
-    }
+    sizes_verdict(h)?;
+    offsets_verdict(size, ruled(h))?;
     let bad = bad_polynomial(g.rv, g.vlow) | bad_polynomial(g.rh, g.hlow);
-    refuse_if(bad, 15, 0, 0)
+    refuse_if(bad, Refusal::Polynomial)
 }

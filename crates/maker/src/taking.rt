@@ -44,7 +44,7 @@ fn joint(
 fn more_taken(left: u64) -> usize
     ensures { (result ≡ cond (eqb left 0) 0 1) × (result ≤ 1) }
 {
-    (left != 0) as usize
+    usize::from(left != 0)
 }
 
 // One row of cells more, or as many of them as are needed.
@@ -62,15 +62,16 @@ fn take_row(h: Header, rows: &[u64], columns: &[u64], i: usize, taken: Taken) ->
     let mut cells = taken.cells;
     let mut count = taken.count;
     let mut along = 0;
-    let mut j = 0;
-    while (j < h.n2) & (count < wanted) {
+    for j in 0..h.n2 {
+        if wanted <= count {
+            break;
+        }
         let entry = joint(h, rows, columns, i, j, down, along);
         let left = sweep(&words[..count], entry);
         words[count] = left;
         cells[count] = first + j;
         count += more_taken(left);
         along = after(along, h.b2);
-        j += 1;
     }
     Taken {
         words,
@@ -91,10 +92,11 @@ pub fn take_cells(h: Header, rows: &[u64], columns: &[u64]) -> Taken
         cells: [0usize; 64],
         count: 0,
     };
-    let mut i = 0;
-    while (i < h.n1) & (taken.count < wanted) {
+    for i in 0..h.n1 {
+        if wanted <= taken.count {
+            break;
+        }
         taken = take_row(h, rows, columns, i, taken);
-        i += 1;
     }
     taken
 }

@@ -35,12 +35,10 @@ use Rattle.mend.specs.Strip.{laid_cell, laid_row, laid_line, laid_sum, fits_on, 
 use Rattle.plan.specs.declared.header.Header.{Header}
 use Rattle.plan.specs.Bytes.{code_with, column_entry_at}
 use Rattle.plan.specs.Table.{Unpacked, word_at}
-use Rattle.mend.specs.declared.found.Found.TheVariants.{Burst, Nothing}
-use Rattle.mend.specs.declared.fit.Fit.{Fit}
-use Rattle.mend.specs.declared.fit.Fit.TheVariants.{Pattern, Nothing as Missing}
+use Rattle.std.specs.Prelude.{Option, Some, None}
 use Rattle.mend.specs.Search.{after_fit, search_from}
 use Rattle.plan.specs.Accepted.{AcceptedWith}
-use Rattle.mend.specs.Found.{IsBurst, BurstOrNone, FoundFor}
+use Rattle.mend.specs.Found.{burst_at, IsBurst, BurstOrNone, FoundFor}
 use Rattle.mend.proofs.First.{found-for}
 use Rattle.mend.proofs.Window.{fit-sum, fit_none, in_window, in_window-holds, window-sum, window-count, pattern-sum, pattern-less}
 use Rattle.mend.proofs.Laying.{laid_cells, laid-entries, laid-sum, laid-number}
@@ -143,7 +141,7 @@ strips-decide s h words U T v t i x rows q = found-for (code_with s h) v t (on_s
     same : (a : ℕ) → a + h.b2 ≤ h.n2 → laid_sum h.b1 h.b2 (word_at words) i a x ≡ laid_sum h.b1 h.b2 (column_entry_at s h) i a x
     same a on = laid-entries h.b1 h.b2 h.n2 i a x (word_at words) (column_entry_at s h) U.formed.b1_pos on T.entry
 
-    go : (b : Bool) → ltb a n ≡ b → BurstOrNone (code_with s h) v t (cond b (Burst i a (box_pattern h.b1 h.b2 a x)) Nothing)
+    go : (b : Bool) → ltb a n ≡ b → BurstOrNone (code_with s h) v t (cond b (Some (burst_at i a (box_pattern h.b1 h.b2 a x))) None)
     go true e =
         let l : a < n = ltb-true a n e in
         let on : a + h.b2 ≤ h.n2 = (let w = U.framed.small.n2_least in omega arith) in
@@ -166,17 +164,17 @@ module _ (s : List ℕ) (h : Header) (words : List ℕ) (U : AcceptedWith s h) (
       → FoundFor (code_with s h) v t (search_from s h (word_at words) v t i m)
   unfolding search_from
   search-rest zero i e none =
-      found-for (code_with s h) v t Nothing
+      found-for (code_with s h) v t None
       (window-none (code_with s h) U.formed U.conditions v t (λ j on m u q. none j (let l = U.framed.small.n1_least in omega arith) m u q))
   search-rest (suc m) i e none = go (first_fit (code_with s h) i v) refl (λ z. search-rest m (suc i) (omega arith) z)
     where
-      go : (f : Fit) → first_fit (code_with s h) i v ≡ f
+      go : (f : Option ℕ) → first_fit (code_with s h) i v ≡ f
           → (((j : ℕ) → j < suc i → Misses j) → FoundFor (code_with s h) v t (search_from s h (word_at words) v t (suc i) m))
           → FoundFor (code_with s h) v t (after_fit f (λ x. on_strips h (word_at words) i x t) (search_from s h (word_at words) v t (suc i) m))
-      go (Pattern x) q rest =
+      go (Some x) q rest =
           let l = U.framed.small.n1_least in
           strips-decide s h words U T v t i x (omega arith) (fit-sum (code_with s h) i v x q)
-      go Missing q rest = rest (λ j l. below_more Misses i none (fit_none (code_with s h) i v q) j (let k : j < i + 1 = omega arith in k))
+      go None q rest = rest (λ j l. below_more Misses i none (fit_none (code_with s h) i v q) j (let k : j < i + 1 = omega arith in k))
 
   pub search-decides : FoundFor (code_with s h) v t (search_from s h (word_at words) v t 0 (h.n1 - h.b1 + 1))
   search-decides = search-rest (h.n1 - h.b1 + 1) 0 (omega arith) (λ j l. absurd (omega arith))

@@ -12,25 +12,23 @@ use Prim.Native.Nat.{ℕ, suc, ◌+◌, ◌*◌, ◌%◌, ◌^◌, ◌≤◌, �
 use native.Mathlib.Nat.{pow-succ', one-mul}
 use native.Mathlib.Decide.{ℕ_discrete, dec_lt}
 use native.Mathlib.Omega.{arith}
+use Rattle.std.specs.Prelude.{◌≢◌, Option, Some, None}
 use lib.Dec.{eqb}
 use lib.ListN.{length, take}
 use lib.Seq.{length-take-le, get_or-take}
 use lib.Pow.{pow_mono, pow_pos, shl_exact}
-use borrow.Author.Tests.{eqb-true, eqb-false, eq-eqb, ne_eqb}
+use borrow.Author.Tests.{eq-eqb, ne_eqb}
 use Rattle.gf2.specs.Xor.{◌⊕◌, pick}
 use Rattle.gf2.specs.Sum.{chosen_sum}
 use Rattle.gf2.proofs.Xor.{xor_zero_left, xor_below, xor-back, bit-xor}
 use Rattle.gf2.proofs.Sum.{sum-equal}
-use Rattle.finite.specs.Search.{bit, count_below, least}
-use Rattle.finite.proofs.Search.{least-found, least_first}
+use Rattle.finite.specs.Search.{bit, count_below}
 use Rattle.finite.proofs.Count.{count-equal, count_none}
 use Rattle.finite.proofs.Digits.{bit-none, bit-power}
 use Rattle.sparse.proofs.Range.{InRange, Last, one, couple, one-count, one-sum, none-chosen, last-chosen, range-count, range-sum}
 use Rattle.sparse.proofs.Sets.{couple-count, couple-sum, couple-range}
 use Rattle.plan.specs.Table.{word_at}
 use Rattle.mend.specs.Window.{FewPattern, PairFit, FewFit}
-use Rattle.mend.specs.declared.fit.Fit.{Fit}
-use Rattle.mend.specs.declared.fit.Fit.TheVariants.{Pattern, Nothing}
 
 -- the sums and counts of equal choices
 same_count : (n : ℕ) (m m' : ℕ → Bool) → ((k : ℕ) → m k ≡ m' k) → count_below n m ≡ count_below n m'
@@ -109,25 +107,22 @@ two-fit f n l k v lk kn e = record {
 
 -- ---- one more word
 
-module _ (words : List ℕ) (k v l : ℕ) (on : k ≤ length words)
-    (e : l ≡ least (length (take k words)) (λ j. eqb (word_at (take k words) j) (v ⊕ word_at words k))) where
+module _ (words : List ℕ) (k v : ℕ) (on : k ≤ length words) where
   size : length (take k words) ≡ k
   size = length-take-le k words on
 
   word-at : (j : ℕ) → j < k → word_at (take k words) j ≡ word_at words j
   word-at j u = get_or-take k words j 0 u
 
-  pub pair_found : l < k → word_at words l ⊕ word_at words k ≡ v
-  pair_found u =
-      let p : ℕ → Bool = λ j. eqb (word_at (take k words) j) (v ⊕ word_at words k) in
-      let q : least (length (take k words)) p < length (take k words) = omega (arith, size, e) in
-      let f = least-found (length (take k words)) p q in
-      ap (λ (x : ℕ). x ⊕ word_at words k) (sym (word-at l u) ∙ ap (word_at (take k words)) e ∙ eqb-true _ (v ⊕ word_at words k) f) ∙ xor-back v (word_at words k)
+  pub pair_found : (l : ℕ) → l < length (take k words) → word_at (take k words) l ≡ v ⊕ word_at words k → (l < k) × (word_at words l ⊕ word_at words k ≡ v)
+  pair_found l u e =
+      let lk : l < k = omega (arith, size) in
+      (lk, ap (λ (x : ℕ). x ⊕ word_at words k) (sym (word-at l lk) ∙ e) ∙ xor-back v (word_at words k))
 
-  pub pair-missed : k ≤ l → (j : ℕ) → j < k → word_at words j ⊕ word_at words k ≡ v → ⊥
-  pair-missed u j lj q =
-      let p : ℕ → Bool = λ j. eqb (word_at (take k words) j) (v ⊕ word_at words k) in
-      eqb-false (word_at (take k words) j) (v ⊕ word_at words k) (least_first (length (take k words)) p j (omega (arith, e)))
+  pub pair-missed : ((j : ℕ) → j < length (take k words) → word_at (take k words) j ≢ v ⊕ word_at words k)
+      → (j : ℕ) → j < k → word_at words j ⊕ word_at words k ≡ v → ⊥
+  pair-missed none j lj q =
+      none j (omega (arith, size))
       (word-at j lj ∙ sym (xor-back (word_at words j) (word_at words k)) ∙ ap (λ (x : ℕ). x ⊕ word_at words k) q)
 
 -- no two words before the next have the sum
@@ -139,18 +134,7 @@ pairs-more f v k before here l j lj u = go (ℕ_discrete j k)
     go (yes q) e = here l (omega arith) (ap (λ (x : ℕ). f l ⊕ f x) (sym q) ∙ e)
     go (no q) e = before l j lj (omega arith) e
 
--- ---- one word
-
-module _ (f : ℕ → ℕ) (n v k : ℕ) (e : k ≡ least n (λ j. eqb (f j) v)) where
-  pub single-found : k < n → f k ≡ v
-  single-found u =
-      let q : least n (λ j. eqb (f j) v) < n = omega (arith, e) in
-      ap f e ∙ eqb-true (f (least n (λ j. eqb (f j) v))) v (least-found n (λ j. eqb (f j) v) q)
-
-  pub single-missed : n ≤ k → (j : ℕ) → j < n → f j ≡ v → ⊥
-  single-missed u j lj = eqb-false (f j) v (least_first n (λ j. eqb (f j) v) j (omega (arith, e)))
-
 -- where t is 2, what is told of two words after none by itself has the sum
-pub pair-few : (t : ℕ) (f : ℕ → ℕ) (n v : ℕ) → t ≡ 2 → (v ≡ 0 → ⊥) → ((k : ℕ) → k < n → f k ≡ v → ⊥) → (r : Fit) → PairFit f n v r → FewFit t f n v r
-pair-few t f n v e nz ones (Pattern x) p = rw e p
-pair-few t f n v e nz ones Nothing p = nothing-fits t (omega arith) f n (omega arith) v nz ones (λ _. p)
+pub pair-few : (t : ℕ) (f : ℕ → ℕ) (n v : ℕ) → t ≡ 2 → (v ≡ 0 → ⊥) → ((k : ℕ) → k < n → f k ≡ v → ⊥) → (r : Option ℕ) → PairFit f n v r → FewFit t f n v r
+pair-few t f n v e nz ones (Some x) p = rw e p
+pair-few t f n v e nz ones None p = nothing-fits t (omega arith) f n (omega arith) v nz ones (λ _. p)

@@ -1,7 +1,7 @@
 -- The first burst by trial, as an answer:
 --
 --   first-verdict, first-report   where some burst has the two sums: number 0, and the report of its cells
---   first-nothing                 where none has: Nothing
+--   first-nothing                 where none has: None
 --   first-has                     number 0 says that some burst has
 --   found-for                     a burst with its cells, or none where there is none, has its number, places and six numbers
 --   first_found                   the first burst by trial is such an answer itself
@@ -20,10 +20,10 @@ use Rattle.boxcode.specs.Reader.{report_of}
 use Rattle.boxcode.proofs.Trial.{trial-rows, trial-columns}
 use Rattle.boxcode.proofs.Report.{report-cells}
 use Rattle.plan.specs.Verdict.{accepted}
-use Rattle.mend.specs.declared.found.Found.{Found}
-use Rattle.mend.specs.declared.found.Found.TheVariants.{Burst, Nothing}
+use Rattle.std.specs.Prelude.{Option, Some, None}
+use Rattle.mend.specs.declared.found.Burst.{Burst}
 use Rattle.mend.specs.Report.{report_as}
-use Rattle.mend.specs.Found.{found_verdict, found_report, first_burst, IsBurst, BurstOrNone, FoundFor}
+use Rattle.mend.specs.Found.{burst_at, found_verdict, found_report, first_burst, IsBurst, BurstOrNone, FoundFor}
 
 module _ (c : Code) (v s : ℕ) where
   pub first-verdict : has_burst c v s ≡ true → found_verdict (first_burst c v s) ≡ accepted
@@ -34,7 +34,7 @@ module _ (c : Code) (v s : ℕ) where
   unfolding first_burst burst_for trial_cells
   first-report t = rw t
 
-  pub first-nothing : has_burst c v s ≡ false → first_burst c v s ≡ Nothing
+  pub first-nothing : has_burst c v s ≡ false → first_burst c v s ≡ None
   unfolding first_burst
   first-nothing t = rw t
 
@@ -42,10 +42,10 @@ module _ (c : Code) (v s : ℕ) where
   unfolding first_burst
   first-has e = go (has_burst c v s) e
     where
-      first : Found
-      first = let t = first_trial c v s in Burst (trial_top c t) (trial_left c t) (trial_pattern c t)
+      first : Option Burst
+      first = let t = first_trial c v s in Some (burst_at (trial_top c t) (trial_left c t) (trial_pattern c t))
 
-      go : (t : Bool) → (found_verdict (cond t first Nothing)).number ≡ 0 → t ≡ true
+      go : (t : Bool) → (found_verdict (cond t first None)).number ≡ 0 → t ≡ true
       go true z = refl
       go false z = absurd (omega arith)
 
@@ -63,15 +63,15 @@ module _ (c : Code) (v s : ℕ) where
   unfolding burst_for trial_cells
   first-cells i j = refl
 
-  pub found-for : (r : Found) → BurstOrNone c v s r → FoundFor c v s r
-  found-for (Burst top left x) b = record {
+  pub found-for : (r : Option Burst) → BurstOrNone c v s r → FoundFor c v s r
+  found-for (Some r) b = record {
     verdict = sym (first-verdict b.has);
     report =
-        ap report_as (report-cells c (box_cells top left c.b1 c.b2 x) (burst_for c v s) (λ i j li lj. b.cells i j))
+        ap report_as (report-cells c (box_cells r.top r.left c.b1 c.b2 r.pattern) (burst_for c v s) (λ i j li lj. b.cells i j))
         ∙ sym (first-report b.has);
     burst = b;
   }
-  found-for Nothing e = record { verdict = ap found_verdict (sym (first-nothing e)); report = ap (found_report c) (sym (first-nothing e)); burst = e }
+  found-for None e = record { verdict = ap found_verdict (sym (first-nothing e)); report = ap (found_report c) (sym (first-nothing e)); burst = e }
 
   pub first_found : Formed c → FoundFor c v s (first_burst c v s)
   first_found F = record { verdict = refl; report = refl; burst = go (has_burst c v s) refl }

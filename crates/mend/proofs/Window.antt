@@ -6,28 +6,28 @@
 --   in_window-holds, window-place, window-sum   it is in the window, and has their sum
 --   pattern-sum       a pattern in the window has the sum of its choice
 --   window-few, window-free     the entries are at most 64, and under the conditions independent
---   fit_of, fit_is               so the solution for the entries is the first pattern with the V sum
+--   fit_is                      so the solution for the entries is the first pattern with the V sum
 --   fit-sum, fit_none           that pattern has the V sum; where there is none, no choice has it
 --
 -- Assumes nothing.
 use mathlib.Core.Path.{◌≡◌, refl, sym, ap, ap₂, ◌∙◌}
 use mathlib.Core.Bool.{Bool, true, false, cond, ◌&&◌}
-use mathlib.Core.List.{List, [], append-nil}
+use mathlib.Core.List.{List, [], ◌++◌, append-nil}
 use Prim.Native.Nat.{ℕ, ◌+◌, ◌-◌, ◌*◌, ◌/◌, ◌^◌, ◌≤◌, ◌<◌}
 use native.Mathlib.Nat.{add-mul, mul-le-mul, mul-le-mul_right, le-div_iff_mul-le, div-lt_iff_lt-mul, lt_of_lt_of_le, lt_trans}
 use native.Mathlib.Omega.{arith}
 use borrow.Author.Tests.{eqb-true, eq-eqb, ltb-true, lt-ltb, le-ltb}
+use Rattle.std.specs.Prelude.{Option, Some, None}
 use lib.Dec.{eqb, ltb}
-use lib.ListN.{length, get_or, take}
+use lib.ListN.{length, get_or, take, drop, replicate}
 use lib.Pow.{pow_mono}
-use lib.Seq.{ext_get_or, length-take-le, get_or-take}
+use lib.Seq.{ext_get_or, take-append_seam}
+use Rattle.std.proofs.lemmas.List.{length-append, length-drop}
 use Rattle.gf2.specs.Xor.{pick}
 use Rattle.gf2.specs.Sum.{chosen_sum}
 use Rattle.gf2.specs.Independence.{Independent}
 use Rattle.gf2.specs.Vectors.{spans, free_from, listed}
 use Rattle.gf2.specs.Solver.{combination, solution}
-use Rattle.gf2.specs.declared.Solution.{Solution}
-use Rattle.gf2.specs.declared.Solution.TheVariants.{Combination, Outside}
 use Rattle.gf2.proofs.Basis.{Below}
 use Rattle.gf2.proofs.Sum.{sum-equal, sum-zero}
 use Rattle.gf2.proofs.Independence.{chosen-spanned, independent-free, pick-false}
@@ -47,8 +47,6 @@ use Rattle.boxcode.specs.Burst.{patterns}
 use Rattle.boxcode.proofs.Image.{unpicked, count-injects}
 use Rattle.boxcode.proofs.Pattern.{InWindow}
 use Rattle.boxcode.proofs.Condition.{rows_apart}
-use Rattle.mend.specs.declared.fit.Fit.{Fit}
-use Rattle.mend.specs.declared.fit.Fit.TheVariants.{Pattern, Nothing}
 use Rattle.mend.specs.Window.{entry_at, window_entries, Gathered, window_sum, makes_sum, first_fit, FewPattern, FewFit}
 use Rattle.plan.specs.Table.{word_at}
 use Rattle.mend.proofs.Runs.{run-sum}
@@ -56,28 +54,26 @@ use Rattle.mend.proofs.Runs.{run-sum}
 unfoldable pub in_window : Code → ℕ → (ℕ → Bool) → ℕ → Bool
 in_window c i m k = within (i * c.b2) (c.b1 * c.b2) k && m (k - i * c.b2)
 
--- what a solution for the window's entries is as a fit
-abbrev pub fit_of : Solution → Fit
-fit_of (Combination x) = Pattern x
-fit_of Outside = Nothing
-
 pub rows_fit : (i b n w : ℕ) → i + b ≤ n → i * w + b * w ≤ n * w
 rows_fit i b n w l = let e : (i + b) * w ≡ i * w + b * w = add-mul i b w in let m : (i + b) * w ≤ n * w = mul-le-mul_right w l in omega arith
 
-pub gathered : (c : Code) (i : ℕ) (words : List ℕ) → c.b1 * c.b2 ≤ 16 → length words ≡ 16
-    → ((k : ℕ) → k < c.b1 * c.b2 → get_or words k 0 ≡ entry_at c i k) → Gathered c i words
+pub gathered : (c : Code) (i : ℕ) (items : List ℕ) → c.b1 * c.b2 ≤ 16 → length items ≡ c.b1 * c.b2
+    → ((k : ℕ) → k < c.b1 * c.b2 → get_or items k 0 ≡ entry_at c i k) → Gathered c i (items ++ drop (c.b1 * c.b2) (replicate 16 0))
 unfolding window_entries
-gathered c i words few size at = record {
-  size = size;
-  entries =
-      let n = c.b1 * c.b2 in
-      let l : length (take n words) ≡ n = length-take-le n words (omega arith) in
-      ext_get_or 0 (take n words) (listed n (λ k. true) (entry_at c i)) (l ∙ sym (listed-length n (entry_at c i)))
-      (λ k lk. let u : k < n = omega arith in get_or-take n words k 0 u ∙ at k u ∙ sym (listed_at n (entry_at c i) k u));
-}
+gathered c i items most size at =
+    let n = c.b1 * c.b2 in
+    let zeros : List ℕ = replicate 16 0 in
+    let rest : List ℕ = drop n zeros in
+    record {
+      size = length-append items rest ∙ omega (arith, size, length-drop n zeros);
+      entries =
+          ap (λ (m : ℕ). take m (items ++ rest)) (sym size) ∙ take-append_seam items rest
+          ∙ ext_get_or 0 items (listed n (λ k. true) (entry_at c i)) (size ∙ sym (listed-length n (entry_at c i)))
+          (λ k lk. let u : k < n = omega arith in at k u ∙ sym (listed_at n (entry_at c i) k u));
+    }
 
 -- a fit of few words that begin an array is one of few entries
-pub few_words : (c : Code) (i t v : ℕ) (words : List ℕ) → Gathered c i words → (r : Fit)
+pub few_words : (c : Code) (i t v : ℕ) (words : List ℕ) → Gathered c i words → (r : Option ℕ)
     → FewFit t (word_at (take (c.b1 * c.b2) words)) (length (take (c.b1 * c.b2) words)) v r → FewFit t (entry_at c i) (c.b1 * c.b2) v r
 unfolding window_entries
 few_words c i t v words G = go (length (take n words)) (ap length G.entries ∙ listed-length n (entry_at c i))
@@ -91,11 +87,11 @@ few_words c i t v words G = go (length (take n words)) (ap length G.entries ∙ 
     sums : (m : ℕ → Bool) → chosen_sum n m (word_at (take n words)) ≡ chosen_sum n m (entry_at c i)
     sums m = sum-equal n (λ k. pick (m k) (word_at (take n words) k)) (λ k. pick (m k) (entry_at c i k)) (λ k l. ap (pick (m k)) (same k l))
 
-    go : (z : ℕ) → z ≡ n → (r : Fit) → FewFit t (word_at (take n words)) z v r → FewFit t (entry_at c i) n v r
-    go z e (Pattern x) f =
+    go : (z : ℕ) → z ≡ n → (r : Option ℕ) → FewFit t (word_at (take n words)) z v r → FewFit t (entry_at c i) n v r
+    go z e (Some x) f =
         let g : FewPattern t (word_at (take n words)) n v x = rw e at f in
         record { below = g.below; few = g.few; sum = sym (sums (bit x)) ∙ g.sum }
-    go z e Nothing f = λ m l q. (rw e at f) m l (sums m ∙ q)
+    go z e None f = λ m l q. (rw e at f) m l (sums m ∙ q)
 
 module _ (c : Code) (F : Formed c) (i : ℕ) (on : i + c.b1 ≤ c.n1) where
   at_most : c.b1 * c.b2 ≤ 16
@@ -215,7 +211,7 @@ module _ (c : Code) (F : Formed c) (i : ℕ) (on : i + c.b1 ≤ c.n1) where
         ∙ sym (spanned-listed (c.b1 * c.b2) (λ k. true) (entry_at c i) v)
         ∙ chosen-spanned (c.b1 * c.b2) (λ k. true) (entry_at c i) v m (λ k t. refl) q
 
-    answer-found : spans entries v ≡ true → (y : ℕ) × (solution entries v ≡ Combination y) × (y < 2 ^ length entries) × (combination entries y ≡ v)
+    answer-found : spans entries v ≡ true → (y : ℕ) × (solution entries v ≡ Some y) × (y < 2 ^ length entries) × (combination entries y ≡ v)
     unfolding entries
     answer-found t = solution-found (window_entries c i) window-few window-below (window-free K any) v small t
 
@@ -250,21 +246,17 @@ module _ (c : Code) (F : Formed c) (i : ℕ) (on : i + c.b1 ≤ c.n1) where
         x : ℕ
         x = least n (λ x. eqb (window_sum c i (bit x)) v)
 
-    pub fit_is : fit_of (solution (window_entries c i) v) ≡ first_fit c i v
+    pub fit_is : solution (window_entries c i) v ≡ first_fit c i v
     unfolding first_fit solution entries
     fit_is =
         rw (least-equal (patterns c) (makes_sum c i v) (λ x. eqb (window_sum c i (bit x)) v) (λ k l. makes_any k), first_below, first-same)
-        (go (spans entries v) (least (2 ^ length entries) (λ y. eqb (combination entries y) v)))
-      where
-        go : (t : Bool) (y : ℕ) → fit_of (cond t (Combination y) Outside) ≡ cond t (Pattern y) Nothing
-        go true y = refl
-        go false y = refl
+        refl
 
   -- a fit of few entries is the first
   module _ (K : Conditions c) (pos : 1 ≤ c.t) (v : ℕ) where
-    pub few-fit : (r : Fit) → FewFit c.t (entry_at c i) (c.b1 * c.b2) v r → r ≡ first_fit c i v
+    pub few-fit : (r : Option ℕ) → FewFit c.t (entry_at c i) (c.b1 * c.b2) v r → r ≡ first_fit c i v
     unfolding first_fit makes_sum window_sum patterns
-    few-fit (Pattern x) f =
+    few-fit (Some x) f =
         let n = c.b1 * c.b2 in
         let u : few c.t (count_below n (bit x)) ≡ true = most-few c.t (count_below n (bit x)) f.few in
         let e : least (2 ^ n) (makes_sum c i v) ≡ x =
@@ -276,7 +268,7 @@ module _ (c : Code) (F : Formed c) (i : ℕ) (on : i + c.b1 ≤ c.n1) where
         (window-apart K (bit y) (bit x) b.0 u (eqb-true (window_sum c i (bit y)) v b.1 ∙ sym f.sum)) in
         absurd (omega arith))) in
         rw (e, lt-ltb x (2 ^ n) f.below)
-    few-fit Nothing f =
+    few-fit None f =
         let n = c.b1 * c.b2 in
         let e : least (2 ^ n) (makes_sum c i v) ≡ 2 ^ n =
         least-none (2 ^ n) (makes_sum c i v) (λ y ly. not-true (makes_sum c i v y) (λ t.
@@ -290,11 +282,11 @@ module _ (c : Code) (i v : ℕ) where
   abbrev makes : ℕ → Bool
   makes = makes_sum c i v
 
-  pub fit-sum : (x : ℕ) → first_fit c i v ≡ Pattern x → (few c.t (count_below (c.b1 * c.b2) (bit x)) ≡ true) × (window_sum c i (bit x) ≡ v)
+  pub fit-sum : (x : ℕ) → first_fit c i v ≡ Some x → (few c.t (count_below (c.b1 * c.b2) (bit x)) ≡ true) × (window_sum c i (bit x) ≡ v)
   unfolding first_fit makes_sum
   fit-sum x e = go (ltb (least (patterns c) makes) (patterns c)) refl e
     where
-      go : (t : Bool) → ltb (least (patterns c) makes) (patterns c) ≡ t → cond t (Pattern (least (patterns c) makes)) Nothing ≡ Pattern x
+      go : (t : Bool) → ltb (least (patterns c) makes) (patterns c) ≡ t → cond t (Some (least (patterns c) makes)) None ≡ Some x
           → (few c.t (count_below (c.b1 * c.b2) (bit x)) ≡ true) × (window_sum c i (bit x) ≡ v)
       go true b q =
           let y : least (patterns c) makes ≡ x = cc in
@@ -303,7 +295,7 @@ module _ (c : Code) (i v : ℕ) where
           (m.0, eqb-true (window_sum c i (bit x)) v m.1)
       go false b q = let z : ◌≡◌ {A = ℕ} 0 1 = cc in absurd (omega arith)
 
-  pub fit_none : first_fit c i v ≡ Nothing → (m : ℕ → Bool) → few c.t (count_below (c.b1 * c.b2) m) ≡ true → window_sum c i m ≡ v → ⊥
+  pub fit_none : first_fit c i v ≡ None → (m : ℕ → Bool) → few c.t (count_below (c.b1 * c.b2) m) ≡ true → window_sum c i m ≡ v → ⊥
   unfolding first_fit makes_sum patterns
   fit_none e m u q =
       let n = c.b1 * c.b2 in

@@ -6,14 +6,13 @@
 --   fits_on            the H sum on a strip is the one that is asked for
 --   laid_digit b2 a x  the digits of the pattern by columns: digit r × b2 + d is that of row r and the remainder of column a + d
 --   box_pattern        the number with these digits
---   on_strips          the burst on the first strip on which the pattern has the H sum, or Nothing
-use Rattle.std.specs.Prelude.{ℕ, ◌+◌, ◌-◌, ◌*◌, ◌/◌, ◌%◌, ◌≤◌, Bool, cond, eqb, ltb}
+--   on_strips          the burst on the first strip on which the pattern has the H sum, or None
+use Rattle.std.specs.Prelude.{ℕ, ◌+◌, ◌-◌, ◌*◌, ◌/◌, ◌%◌, ◌≤◌, Bool, cond, Option, Some, None, eqb, ltb}
 use Rattle.gf2.specs.Xor.{pick}
 use Rattle.gf2.specs.Sum.{xor_sum}
 use Rattle.finite.specs.Search.{bit, least, number_of}
 use Rattle.plan.specs.declared.header.Header.{Header}
-use Rattle.mend.specs.declared.found.Found.{Found}
-use Rattle.mend.specs.declared.found.Found.TheVariants.{Burst, Nothing}
+use Rattle.mend.specs.declared.found.Burst.{Burst}
 
 pub record BurstSize (b1 b2 : ℕ) : Type 0 where
   pub b1_pos : 1 ≤ b1
@@ -45,8 +44,8 @@ laid_digit b2 a x k = bit x (k / b2 * b2 + (a + k % b2) % b2)
 unfoldable pub box_pattern : ℕ → ℕ → ℕ → ℕ → ℕ
 box_pattern b1 b2 a x = number_of (b1 * b2) (laid_digit b2 a x)
 
-unfoldable pub on_strips : Header → (ℕ → ℕ) → ℕ → ℕ → ℕ → Found
+unfoldable pub on_strips : Header → (ℕ → ℕ) → ℕ → ℕ → ℕ → Option Burst
 on_strips h entry i x s =
     let n = h.n2 - h.b2 + 1 in
     let a = least n (fits_on h.b1 h.b2 entry i x s) in
-    cond (ltb a n) (Burst i a (box_pattern h.b1 h.b2 a x)) Nothing
+    cond (ltb a n) (Some (record { top = i; left = a; pattern = box_pattern h.b1 h.b2 a x })) None

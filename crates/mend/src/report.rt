@@ -1,4 +1,5 @@
-// The report of a burst: how many cells it has, the smallest rectangle that holds them, and their pattern in it; six zeros where there are none.
+// The report of a burst: how many cells it has, the smallest rectangle that holds them, and their pattern in it; six zeros where there
+// are none.
 ghost use Rattle.std.specs.Prelude.{◌≡◌, cond, ◌*◌, ◌≤◌, ◌<◌};
 ghost use Rattle.finite.specs.Search.{bit, count_below, first_of, past_of};
 ghost use Rattle.mend.specs.Strip.{BurstSize};
@@ -27,13 +28,7 @@ pub fn count_digits(x: u64, n: usize) -> usize
     requires { n ≤ 16 }
     ensures { result ≡ count_below n (bit x) }
 {
-    let mut count = 0;
-    let mut k = 0;
-    while k < n {
-        count += digit(x, k);
-        k += 1;
-    }
-    count
+    (x % (1 << n)).count_ones() as usize
 }
 
 // One of count digits of x is 1, from a place on and a step apart.
@@ -41,29 +36,24 @@ fn any_digit(x: u64, from: usize, step: usize, count: usize) -> bool
     requires { (from ≤ 12) × (step ≤ 4) × (count ≤ 4) }
     ensures { result ≡ any_of x from step count }
 {
-    let mut k = from;
-    let mut l = 0;
-    while l < count {
-        if digit(x, k) == 1 {
+    for l in 0..count {
+        if digit(x, from + l * step) == 1 {
             return true;
         }
-        k += step;
-        l += 1;
     }
     false
 }
 
-// The first of the lines, rows or columns, that has a cell, or 0. The digits of a line are count, a step apart; those of the next begin a jump further on.
+// The first of the lines, rows or columns, that has a cell, or 0. The digits of a line are count, a step apart; those of the next begin
+// a jump further on.
 fn first_line(x: u64, jump: usize, step: usize, count: usize, lines: usize) -> usize
     requires { Lines jump step count lines }
     ensures { result ≡ first_of lines (line_has x jump step count) }
 {
-    let mut k = 0;
-    while k < lines {
+    for k in 0..lines {
         if any_digit(x, k * jump, step, count) {
             return k;
         }
-        k += 1;
     }
     0
 }
@@ -73,25 +63,22 @@ fn past_line(x: u64, jump: usize, step: usize, count: usize, lines: usize) -> us
     requires { Lines jump step count lines }
     ensures { result ≡ past_of lines (line_has x jump step count) }
 {
-    let mut past = lines;
-    while 0 < past {
-        if any_digit(x, (past - 1) * jump, step, count) {
-            return past;
+    for k in (0..lines).rev() {
+        if any_digit(x, k * jump, step, count) {
+            return k + 1;
         }
-        past -= 1;
     }
     0
 }
 
-// The number of the pattern in a smaller rectangle, at a row and a column of one with b2 columns: digit r × width + s of it is that of row r and column s.
+// The number of the pattern in a smaller rectangle, at a row and a column of one with b2 columns: digit r × width + s of it is that of
+// row r and column s.
 fn part_number(x: u64, b2: usize, row: usize, column: usize, height: usize, width: usize) -> usize
     requires { Part b2 row column height width }
     ensures { result ≡ part_number b2 row column height width x }
 {
     let mut y = 0;
-    let mut k = height * width;
-    while 0 < k {
-        k -= 1;
+    for k in (0..height * width).rev() {
         y = 2 * y + digit(x, (row + k / width) * b2 + (column + k % width));
     }
     y

@@ -8,7 +8,7 @@ ghost use Rattle.plan.specs.Header.{Small};
 ghost use Rattle.plan.specs.Table.{word_at};
 ghost use Rattle.mend.specs.Strip.{BurstSize, laid_row, laid_sum, fits_on, laid_digit, box_pattern, on_strips};
 
-use crate::found::Found;
+use crate::found::Burst;
 use layout::cycle::after;
 use plan::header::Header;
 
@@ -29,12 +29,10 @@ fn row_sum(columns: &[u64], b1: usize, b2: usize, u: usize, first: usize, a: usi
     let mut sum = 0;
     let mut t = a % b2;
     let mut at = a * b1 + u;
-    let mut d = 0;
-    while d < b2 {
+    for _ in 0..b2 {
         sum ^= picked(x, first + t, columns[at]);
         t = after(t, b2);
         at += b1;
-        d += 1;
     }
     sum
 }
@@ -48,12 +46,10 @@ pub fn laid_sum(columns: &[u64], b1: usize, b2: usize, i: usize, a: usize, x: u6
     let mut sum = 0;
     let mut u = i % b1;
     let mut first = 0;
-    let mut r = 0;
-    while r < b1 {
+    for _ in 0..b1 {
         sum ^= row_sum(columns, b1, b2, u, first, a, x);
         u = after(u, b1);
         first += b2;
-        r += 1;
     }
     sum
 }
@@ -65,14 +61,12 @@ fn first_strip(columns: &[u64], h: Header, i: usize, x: u64, s: u64) -> usize
     ensures { result ≡ least (h.n2 - h.b2 + 1) (fits_on h.b1 h.b2 (word_at columns.now) i x s) }
 {
     let count = h.n2 - h.b2 + 1;
-    let mut a = 0;
-    while a < count {
+    for a in 0..count {
         if laid_sum(columns, h.b1, h.b2, i, a, x) == s {
             return a;
         }
-        a += 1;
     }
-    a
+    count
 }
 
 // Digit k of the pattern by columns: that of its row, and of the remainder of its column.
@@ -92,23 +86,25 @@ pub fn box_pattern(b1: usize, b2: usize, a: usize, x: u64) -> u64
     ensures { result ≡ box_pattern b1 b2 a x }
 {
     let mut y = 0;
-    let mut k = b1 * b2;
-    while 0 < k {
-        k -= 1;
+    for k in (0..b1 * b2).rev() {
         y = 2 * y + laid_digit(b2, a, x, k);
     }
     y
 }
 
 // The pattern of the window at row i on the strip on which it has the H sum s.
-pub fn on_strips(columns: &[u64], h: Header, i: usize, x: u64, s: u64) -> Found
+pub fn on_strips(columns: &[u64], h: Header, i: usize, x: u64, s: u64) -> Option<Burst>
     requires small { Small h }
     requires b1_in_bounds { h.n2 * h.b1 ≤ length columns.now }
     ensures { result ≡ on_strips h (word_at columns.now) i x s }
 {
     let a = first_strip(columns, h, i, x, s);
     if h.n2 - h.b2 < a {
-        return Found::Nothing;
+        return None;
     }
-    Found::Burst(i, a, box_pattern(h.b1, h.b2, a, x))
+    Some(Burst {
+        top: i,
+        left: a,
+        pattern: box_pattern(h.b1, h.b2, a, x),
+    })
 }

@@ -2,9 +2,9 @@
 --
 --   sizes-small, small-sizes   checks 2 to 4 and 23 pass exactly where the header's numbers are in range
 --   position-fits   a cell's entry lies in its table
---   table-room      either table has room in 2,792 words
---   framed    where checks 1 to 5 and 23 pass, the plan is framed
+--   fields-framed, framed   where checks 2 to 5 and 23 pass of its header, or 1 to 5 and 23 of it, the plan is framed
 --   framed-code     its code, by the header under a name of its own
+--   same-header, same-code   header and code of a view over the plan
 --
 -- Assumes nothing.
 use mathlib.Core.Path.{◌≡◌, refl, ◌∙◌, ap}
@@ -19,9 +19,6 @@ use lib.Dec.{eqb, ltb}
 use lib.ListN.{length}
 use Rattle.finite.proofs.Truth.{or-false}
 use Rattle.plan.specs.declared.header.Header.{Header}
-use Rattle.plan.specs.declared.table.Table.{Table}
-use Rattle.plan.specs.declared.table.Table.TheVariants.{Rows, Columns}
-use Rattle.plan.specs.Table.{entries_of}
 use Rattle.plan.specs.Verdict.{accepted, verdict_if, refusal}
 use Rattle.plan.specs.Header.{header_length, header_of, Small, Framed, columns_start, checks_start, plan_length}
 use Rattle.plan.specs.Bytes.{code_with, code_of}
@@ -100,12 +97,11 @@ small-sizes h p =
 same : (a b : ℕ) → not (eqb a b) ≡ false → a ≡ b
 same a b e = eqb-true a b (not-false (eqb a b) e)
 
-pub framed : (s : List ℕ) → (header_verdict s).number ≡ 0 → Framed s (header_of s)
-unfolding header_verdict fields_verdict offsets_verdict bad_offsets
-framed s e =
+pub fields-framed : (s : List ℕ) → (fields_verdict (length s) (header_of s)).number ≡ 0 → Framed s (header_of s)
+unfolding fields_verdict offsets_verdict bad_offsets
+fields-framed s e =
     let h = header_of s in
-    let long = else-zero (verdict_if (ltb (length s) header_length) (refusal 1 0 0)) (fields_verdict (length s) h) e in
-    let sizes = else-zero (sizes_verdict h) (offsets_verdict (length s) h) long.1 in
+    let sizes = else-zero (sizes_verdict h) (offsets_verdict (length s) h) e in
     let offsets = or-false _ (not (eqb (length s) (plan_length h))) (if-zero (bad_offsets (length s) h) 4 0 0 sizes.1) in
     let three = four (not (eqb h.rows header_length)) (not (eqb h.columns (columns_start h))) (not (eqb h.checks (checks_start h)))
     (not (eqb h.total (plan_length h))) offsets.0 in
@@ -119,15 +115,20 @@ framed s e =
       long = same (length s) (plan_length h) offsets.1;
     }
 
+pub framed : (s : List ℕ) → (header_verdict s).number ≡ 0 → Framed s (header_of s)
+unfolding header_verdict
+framed s e = fields-framed s (else-zero (verdict_if (ltb (length s) header_length) (refusal 1 0 0)) _ e).1
+
 -- the position of a cell's entry lies in its table
 pub position-fits : (i j b n : ℕ) → i < n → 1 ≤ b → i * b + j % b < n * b
 position-fits i j b n l p = digits_lt l (mod-lt j p)
 
--- either table has room in 2,792 words
-pub table-room : (h : Header) (t : Table) → Small h → entries_of h t ≤ 2792
-table-room h Rows p = omega (arith, p.row_positions)
-table-room h Columns p = p.column_positions
-
 pub framed-code : (s : List ℕ) (h : Header) → Framed s h → code_with s h ≡ code_of s
 unfolding code_of
 framed-code s h F = ap (code_with s) F.is
+
+pub same-code : {s s' : List ℕ} {h : Header} → Framed s' h → s' ≡ s → code_with s' h ≡ code_of s
+same-code {s} {s'} {h} F e = framed-code s' h F ∙ ap code_of e
+
+pub same-header : {s s' : List ℕ} {h : Header} → Framed s' h → s' ≡ s → h ≡ header_of s
+same-header F e = F.is ∙ ap header_of e

@@ -1,16 +1,19 @@
 // The rules of form: checks 1 to 7 of document 01.
-ghost use Rattle.std.specs.Prelude.{◌≡◌, ◌+◌, ◌*◌, ◌≤◌, ◌<◌};
+ghost use Rattle.std.specs.Prelude.{IfOk, ◌≡◌, ◌+◌, ◌*◌, ◌≤◌, ◌<◌};
 ghost use Rattle.finite.specs.Search.{least};
-ghost use Rattle.plan.specs.Header.{Small, Framed};
-ghost use Rattle.plan.specs.Bytes.{code_with};
+ghost use Rattle.plan.specs.Header.{Small};
+ghost use Rattle.plan.specs.View.{code_in};
 ghost use Rattle.plan.specs.Table.{entries_of, entry_of};
 ghost use Rattle.plan.specs.Form.{bad_burst, bad_sheet, bad_widths, bad_cells, bad_offsets, sizes_verdict, offsets_verdict, fields_verdict};
-ghost use Rattle.plan.specs.Form.{header_verdict, first_large, entries_verdict, rises, bad_pair, list_verdict, form_verdict};
+ghost use Rattle.plan.specs.declared.verdict.Refusal.TheVariants.{LargeEntry};
+ghost use Rattle.plan.specs.Verdict.{refusal_of, told};
+ghost use Rattle.plan.specs.Form.{verdict_at, header_verdict, first_large, entries_verdict, rises, bad_pair, list_verdict, form_verdict};
 
-use crate::entry::{check_cell, header_of};
+use crate::entry::header_of;
 use crate::header::{Header, LENGTH, ruled};
-use crate::table::{Table, entry};
-use crate::verdict::{Verdict, refuse, refuse_if};
+use crate::table::{Table, entries};
+use crate::verdict::{Refusal, refuse_if};
+use crate::view::View;
 
 // Check 2: the burst's size.
 fn bad_burst(h: Header) -> bool
@@ -54,143 +57,128 @@ fn bad_offsets(size: usize, h: Header) -> bool
 }
 
 // Checks 2 to 4 and 23: the seven numbers of a header, with or without a plan.
-pub fn sizes_verdict(h: Header) -> Verdict
-    ensures { result ≡ sizes_verdict h }
+pub fn sizes_verdict(h: Header) -> Result<(), Refusal>
+    ensures { told result ≡ sizes_verdict h }
 {
-    if bad_burst(h) {
-        return refuse(2, 0, 0);
-    }
-    if bad_sheet(h) {
-        return refuse(3, 0, 0);
-    }
-    if bad_widths(h) {
-        return refuse(4, 0, 0);
-    }
-    refuse_if(bad_cells(h), 23, 0, 0)
+    refuse_if(bad_burst(h), Refusal::BurstSize)?;
+    refuse_if(bad_sheet(h), Refusal::SheetSize)?;
+    refuse_if(bad_widths(h), Refusal::EntryWidths)?;
+    refuse_if(bad_cells(h), Refusal::BurstCells)
 }
 
 // Check 5, of a plan of size bytes. The sizes come first: the rule's sums then can't wrap.
-pub fn offsets_verdict(size: usize, h: Header) -> Verdict
+pub fn offsets_verdict(size: usize, h: Header) -> Result<(), Refusal>
     requires { Small h }
-    ensures { result ≡ offsets_verdict size h }
+    ensures { told result ≡ offsets_verdict size h }
 {
-    refuse_if(bad_offsets(size, h), 5, 0, 0)
+    refuse_if(bad_offsets(size, h), Refusal::Offsets)
 }
 
 // Checks 2 to 5, of the header of a plan of size bytes.
-fn fields_verdict(size: usize, h: Header) -> Verdict
-    ensures { result ≡ fields_verdict size h }
+fn fields_verdict(size: usize, h: Header) -> Result<(), Refusal>
+    ensures { told result ≡ fields_verdict size h }
 {
-    let sizes = sizes_verdict(h);
-    if sizes.number != 0 {
-        return sizes;
-    }
+    sizes_verdict(h)?;
     offsets_verdict(size, h)
 }
 
 // Checks 1 to 5.
-pub fn header_verdict(plan: &[u8]) -> Verdict
-    ensures { result ≡ header_verdict plan.now }
+pub fn header_verdict<'a>(plan: &'a [u8]) -> Result<View<'a>, Refusal>
+    ensures told { told result ≡ header_verdict plan.now }
+    ensures view { IfOk result (λ v. v.plan.now ≡ plan.now) }
 {
     if plan.len() < LENGTH {
-        return refuse(1, 0, 0);
+        return Err(Refusal::ShortPlan);
     }
-    fields_verdict(plan.len(), header_of(plan))
+    let header = header_of(plan);
+    fields_verdict(plan.len(), header)?;
+    Ok(View { plan, header })
 }
 
 // The first of count entries of a table that has more than width bits, or count.
-fn first_large(plan: &[u8], h: Header, t: Table, count: usize, width: usize) -> usize
-    requires framed { Framed plan.now h }
-    requires count_bound { (count ≤ entries_of h t) × (width ≤ 32) }
-    ensures { result ≡ first_large count width (entry_of plan.now h t) }
+fn first_large<'a>(view: View<'a>, t: Table, count: usize, width: usize) -> usize
+    requires { (count ≤ entries_of view.header t) × (width ≤ 32) }
+    ensures { result ≡ first_large count width (entry_of view.entry.plan.now view.entry.header t) }
 {
     let limit = 1u64 << width;
-    let mut k = 0;
-    while k < count {
-        if limit <= entry(plan, h, t, k) {
+    for k in 0..count {
+        if limit <= view.entry(t, k) {
             return k;
         }
-        k += 1;
     }
-    k
+    count
+}
+
+// Check 6 of a table.
+fn table_verdict<'a>(view: View<'a>, t: Table, width: usize) -> Result<(), Refusal>
+    requires { width ≤ 32 }
+    ensures { let n = entries_of view.entry.header t in
+        let k = first_large n width (entry_of view.entry.plan.now view.entry.header t) in
+        told result ≡ verdict_at n k (refusal_of (LargeEntry t k)) }
+{
+    let count = entries(view.header, t);
+    let k = first_large(view, t, count, width);
+    refuse_if(k < count, Refusal::LargeEntry(t, k))
 }
 
 // Check 6: V and then H.
-pub fn entries_verdict(plan: &[u8], h: Header) -> Verdict
-    requires { Framed plan.now h }
-    ensures { result ≡ entries_verdict (code_with plan.now h) }
+pub fn entries_verdict<'a>(view: View<'a>) -> Result<(), Refusal>
+    ensures { told result ≡ entries_verdict (code_in view.entry) }
 {
-    let rows = h.n1 * h.b2;
-    let large_row = first_large(plan, h, Table::Rows, rows, h.rv);
-    if large_row < rows {
-        return refuse(6, 0, large_row);
-    }
-    let columns = h.n2 * h.b1;
-    let large_column = first_large(plan, h, Table::Columns, columns, h.rh);
-    refuse_if(large_column < columns, 6, 1, large_column)
+    table_verdict(view, Table::Rows, view.header.rv)?;
+    table_verdict(view, Table::Columns, view.header.rh)
 }
 
 // A pair of the check list comes after the one before it.
-fn pair_rises(plan: &[u8], h: Header, k: usize) -> bool
-    requires framed { Framed plan.now h }
-    requires k_bound { k < h.rv + h.rh }
-    ensures { result ≡ rises (code_with plan.now h) k }
+fn pair_rises<'a>(view: View<'a>, k: usize) -> bool
+    requires { k < view.header.rv + view.header.rh }
+    ensures { result ≡ rises (code_in view.entry) k }
 {
     if k == 0 {
         return true;
     }
-    let before = check_cell(plan, h, k - 1);
-    let here = check_cell(plan, h, k);
+    let before = view.check_cell(k - 1);
+    let here = view.check_cell(k);
     (before.row < here.row) | ((before.row == here.row) & (before.column < here.column))
 }
 
 // A pair of the check list is off the sheet or out of order.
-fn bad_pair(plan: &[u8], h: Header, k: usize) -> bool
-    requires framed { Framed plan.now h }
-    requires k_bound { k < h.rv + h.rh }
-    ensures { result ≡ bad_pair (code_with plan.now h) k }
+fn bad_pair<'a>(view: View<'a>, k: usize) -> bool
+    requires { k < view.header.rv + view.header.rh }
+    ensures { result ≡ bad_pair (code_in view.entry) k }
 {
-    let here = check_cell(plan, h, k);
-    (h.n1 <= here.row) | (h.n2 <= here.column) | !pair_rises(plan, h, k)
+    let here = view.check_cell(k);
+    (view.header.n1 <= here.row) | (view.header.n2 <= here.column) | !pair_rises(view, k)
 }
 
 // The first such pair, or the length of the list.
-fn first_bad_pair(plan: &[u8], h: Header) -> usize
-    requires { Framed plan.now h }
-    ensures { result ≡ least (h.rv + h.rh) (bad_pair (code_with plan.now h)) }
+fn first_bad_pair<'a>(view: View<'a>) -> usize
+    ensures { result ≡ least (view.entry.header.rv + view.entry.header.rh) (bad_pair (code_in view.entry)) }
 {
-    let count = h.rv + h.rh;
-    let mut k = 0;
-    while k < count {
-        if bad_pair(plan, h, k) {
+    let count = view.header.rv + view.header.rh;
+    for k in 0..count {
+        if bad_pair(view, k) {
             return k;
         }
-        k += 1;
     }
-    k
+    count
 }
 
 // Check 7.
-pub fn list_verdict(plan: &[u8], h: Header) -> Verdict
-    requires { Framed plan.now h }
-    ensures { result ≡ list_verdict (code_with plan.now h) }
+pub fn list_verdict<'a>(view: View<'a>) -> Result<(), Refusal>
+    ensures { told result ≡ list_verdict (code_in view.entry) }
 {
-    let k = first_bad_pair(plan, h);
-    refuse_if(k < h.rv + h.rh, 7, k, 0)
+    let k = first_bad_pair(view);
+    refuse_if(k < view.header.rv + view.header.rh, Refusal::CheckList(k))
 }
 
 // Checks 1 to 7.
-pub fn form_verdict(plan: &[u8]) -> Verdict
-    ensures { result ≡ form_verdict plan.now }
+pub fn form_verdict<'a>(plan: &'a [u8]) -> Result<View<'a>, Refusal>
+    ensures told { told result ≡ form_verdict plan.now }
+    ensures view { IfOk result (λ v. v.plan.now ≡ plan.now) }
 {
-    let header = header_verdict(plan);
-    if header.number != 0 {
-        return header;
-    }
-    let h = header_of(plan);
-    let entries = entries_verdict(plan, h);
-    if entries.number != 0 {
-        return entries;
-    }
-    list_verdict(plan, h)
+    let view = header_verdict(plan)?;
+    entries_verdict(view)?;
+    list_verdict(view)?;
+    Ok(view)
 }

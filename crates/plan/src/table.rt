@@ -1,11 +1,11 @@
 // The two tables of a plan, and a table unpacked into words.
 ghost use Rattle.std.specs.Prelude.{◌≡◌, ◌<◌, length};
-ghost use Rattle.plan.specs.Header.{Small, Framed};
+ghost use Rattle.plan.specs.Header.{Small};
 ghost use Rattle.plan.specs.Bytes.{Weight};
 ghost use Rattle.plan.specs.Table.{entries_of, entry_of, EntriesIn};
 
-use crate::entry::{column_entry, row_entry};
 use crate::header::Header;
+use crate::view::View;
 
 // The row table V, the column table H.
 #[derive(Clone, Copy)]
@@ -14,17 +14,8 @@ pub enum Table {
     Columns,
 }
 
-// The entry at a position of a table.
-pub fn entry(plan: &[u8], h: Header, t: Table, k: usize) -> u64
-    requires framed { Framed plan.now h }
-    requires k_bound { k < entries_of h t }
-    ensures { Weight (entry_of plan.now h t k) result }
-{
-    match t {
-        Table::Rows => row_entry(plan, h, k),
-        Table::Columns => column_entry(plan, h, k),
-    }
-}
+// Words for either table: there are at most 698 columns, with 4 entries each.
+pub const WORDS: usize = 2792;
 
 // How many entries a table has.
 pub fn entries(h: Header, t: Table) -> usize
@@ -37,16 +28,25 @@ pub fn entries(h: Header, t: Table) -> usize
     }
 }
 
-// A table into the first of 2,792 words. There are at most 698 columns, with 4 entries each.
-pub fn unpack(plan: &[u8], h: Header, t: Table, words: &mut [u64])
-    requires framed { Framed plan.now h }
-    requires words_len { length words.old ≡ 2792 }
-    ensures { EntriesIn plan.now h t words.new }
-{
-    let count = entries(h, t);
-    let mut k = 0;
-    while k < count {
-        words[k] = entry(plan, h, t, k);
-        k += 1;
+impl<'a> View<'a> {
+    // The entry at a position of a table.
+    pub fn entry(self, t: Table, k: usize) -> u64
+        requires { k < entries_of self.header t }
+        ensures { Weight (entry_of self.entry.plan.now self.entry.header t k) result }
+    {
+        match t {
+            Table::Rows => self.row_entry(k),
+            Table::Columns => self.column_entry(k),
+        }
+    }
+
+    // A table into the first words.
+    pub fn unpack(self, t: Table, words: &mut [u64; WORDS])
+        ensures { EntriesIn self.entry.plan.now self.entry.header t words.new }
+    {
+        let count = entries(self.header, t);
+        for k in 0..count {
+            words[k] = self.entry(t, k);
+        }
     }
 }

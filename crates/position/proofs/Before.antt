@@ -11,7 +11,7 @@
 --   next-kept, next-free  up to it no check cell is passed, and none stands
 --   next-left, next-check, next-passed   where it is on the sheet: the list has it, it is one, and one more is passed past it
 --   UpTo c t q            the first q check cells stand before number t
---   up-to-none, up-to-first, up-to-next   none do; such a number; one more
+--   up-to-first, up-to-next               such a number; one more
 --   up-to-last, up-to-end                 all of them: the next stands at t or after it, or there is no next
 --   checks-rise           the check cells before a row are no more than those before the next
 --
@@ -196,9 +196,6 @@ module _ (c : Code) (F : Formed c) where
 pub record UpTo (c : Code) (t q : ℕ) : Type 0 where
   pub most : q ≤ c.rv + c.rh
   pub before : (k : ℕ) → k < q → check_number c k < t
-
-pub up-to-none : (c : Code) (t : ℕ) → UpTo c t 0
-up-to-none c t = record { most = omega arith; before = λ k l. absurd (omega arith) }
 
 pub up-to-next : (c : Code) (t u q next : ℕ) → UpTo c t q → q < c.rv + c.rh → next ≡ next_check c q → next < u → t ≤ u → UpTo c u (q + 1)
 up-to-next c t u q next U l e h m = record { most = omega arith; before = λ k lk. go k lk (ℕ_discrete k q) }

@@ -1,13 +1,10 @@
 // A cursor over the sheet from run to run: a run is the data cells of a row up to a check cell or the end of the row.
 ghost use Rattle.std.specs.Prelude.{◌≡◌, ◌+◌, ◌*◌, ◌≤◌, ◌<◌};
 ghost use Rattle.boxcode.specs.Code.{Formed};
-ghost use Rattle.plan.specs.Header.{Framed};
-ghost use Rattle.plan.specs.Bytes.{code_with};
+ghost use Rattle.plan.specs.View.{code_in};
 ghost use Rattle.position.specs.Walk.{checks_before, next_check, row_ends, run_length, data_bit, At, Begun, Stepped};
 
-use layout::compare::smaller;
-use plan::entry::check_cell;
-use plan::header::Header;
+use plan::view::View;
 
 // The cell (row, column), its number in sheet order, the number of data cells and of check cells before it in sheet order,
 // the number of the next check cell, and the data cells before its row and before the next row, added. Past the last cell
@@ -24,53 +21,51 @@ pub struct Cursor {
 }
 
 // The number of check cell q, or that of all cells where q is past the list.
-pub fn next_check(plan: &[u8], h: Header, q: usize) -> usize
-    requires framed { Framed plan.now h }
-    requires q_bound { q ≤ h.rv + h.rh }
-    ensures { result ≡ next_check (code_with plan.now h) q }
+pub fn next_check<'a>(view: View<'a>, q: usize) -> usize
+    requires q_bound { q ≤ view.header.rv + view.header.rh }
+    ensures { result ≡ next_check (code_in view.entry) q }
 {
+    let h = view.header;
     if q == h.rv + h.rh {
         return h.n1 * h.n2;
     }
-    let cell = check_cell(plan, h, q);
+    let cell = view.check_cell(q);
     cell.row * h.n2 + cell.column
 }
 
 // The check cells before number t in sheet order, where so many of them are known.
-pub fn checks_before(plan: &[u8], h: Header, t: usize, known: usize) -> usize
-    requires framed { Framed plan.now h }
-    requires formed { Formed (code_with plan.now h) }
-    requires known_bound { known ≤ checks_before (code_with plan.now h) t }
-    ensures { result ≡ checks_before (code_with plan.now h) t }
+pub fn checks_before<'a>(view: View<'a>, t: usize, known: usize) -> usize
+    requires formed { Formed (code_in view) }
+    requires known_bound { known ≤ checks_before (code_in view) t }
+    ensures { result ≡ checks_before (code_in view.entry) t }
 {
-    let mut q = known;
-    while q < h.rv + h.rh {
-        if t <= next_check(plan, h, q) {
+    let h = view.header;
+    let count = h.rv + h.rh;
+    for q in known..count {
+        if t <= next_check(view, q) {
             return q;
         }
-        q += 1;
     }
-    q
+    count
 }
 
 // The data cells before a row and before the next row, added.
-pub fn row_ends(plan: &[u8], h: Header, row: usize, check: usize) -> usize
-    requires framed { Framed plan.now h }
-    requires formed { Formed (code_with plan.now h) }
-    requires row_le_n1 { row ≤ h.n1 }
-    requires check_value { check ≡ checks_before (code_with plan.now h) (row * h.n2) }
-    ensures { result ≡ row_ends (code_with plan.now h) row }
+pub fn row_ends<'a>(view: View<'a>, row: usize, check: usize) -> usize
+    requires formed { Formed (code_in view) }
+    requires row_le_n1 { row ≤ view.header.n1 }
+    requires check_value { check ≡ checks_before (code_in view) (row * view.header.n2) }
+    ensures { result ≡ row_ends (code_in view.entry) row }
 {
+    let h = view.header;
     let next = (row + 1) * h.n2;
-    let past = checks_before(plan, h, next, check);
+    let past = checks_before(view, next, check);
     (row * h.n2 - check) + (next - past)
 }
 
 // At the first cell.
-pub fn start(plan: &[u8], h: Header) -> Cursor
-    requires framed { Framed plan.now h }
-    requires formed { Formed (code_with plan.now h) }
-    ensures { Begun (code_with plan.now h) result }
+pub fn start<'a>(view: View<'a>) -> Cursor
+    requires formed { Formed (code_in view) }
+    ensures { Begun (code_in view.entry) result }
 {
     Cursor {
         cell: 0,
@@ -78,8 +73,8 @@ pub fn start(plan: &[u8], h: Header) -> Cursor
         column: 0,
         place: 0,
         check: 0,
-        next: next_check(plan, h, 0),
-        ends: row_ends(plan, h, 0, 0),
+        next: next_check(view, 0),
+        ends: row_ends(view, 0, 0),
     }
 }
 
@@ -88,18 +83,18 @@ pub fn run(at: Cursor, n2: usize) -> usize
     requires { (at.cell ≤ at.next) × (at.column ≤ n2) }
     ensures { result ≡ run_length n2 at }
 {
-    smaller(at.next - at.cell, n2 - at.column)
+    (at.next - at.cell).min(n2 - at.column)
 }
 
 // Past a run: to the next row at the end of a row, else past the check cell that ends the run.
-pub fn step(plan: &[u8], h: Header, at: Cursor, len: usize) -> Cursor
-    requires framed { Framed plan.now h }
-    requires formed { Formed (code_with plan.now h) }
-    requires at { At (code_with plan.now h) at }
-    requires row_lt_n1 { at.row < h.n1 }
-    requires len_value { len ≡ run_length h.n2 at }
-    ensures { Stepped (code_with plan.now h) at result }
+pub fn step<'a>(view: View<'a>, at: Cursor, len: usize) -> Cursor
+    requires formed { Formed (code_in view) }
+    requires at { At (code_in view) at }
+    requires row_lt_n1 { at.row < view.header.n1 }
+    requires len_value { len ≡ run_length view.header.n2 at }
+    ensures { Stepped (code_in view.entry) at result }
 {
+    let h = view.header;
     if at.column + len == h.n2 {
         return Cursor {
             cell: at.cell + len,
@@ -108,7 +103,7 @@ pub fn step(plan: &[u8], h: Header, at: Cursor, len: usize) -> Cursor
             place: at.place + len,
             check: at.check,
             next: at.next,
-            ends: row_ends(plan, h, at.row + 1, at.check),
+            ends: row_ends(view, at.row + 1, at.check),
         };
     }
     let check = at.check + 1;
@@ -118,7 +113,7 @@ pub fn step(plan: &[u8], h: Header, at: Cursor, len: usize) -> Cursor
         column: at.column + len + 1,
         place: at.place + len,
         check,
-        next: next_check(plan, h, check),
+        next: next_check(view, check),
         ends: at.ends,
     }
 }

@@ -29,7 +29,8 @@ use Rattle.accept.specs.Verdict.{Accepted}
 use Rattle.accept.proofs.Acceptance.{accepted-plan}
 use Rattle.buffers.specs.Buffers.{data_length, data_unused, sheet_checks, length_checks, write_checks, read_checks}
 use Rattle.buffers.proofs.Passing.{sheets-pass, right-unused, transposes-pass}
-use Rattle.mend.specs.declared.found.Found.{Found}
+use Rattle.std.specs.Prelude.{Option}
+use Rattle.mend.specs.declared.found.Burst.{Burst}
 use Rattle.mend.specs.Found.{found_verdict, first_burst}
 use Rattle.transpose.specs.Transpose.{TurnedOver, turned_sheet, turned_over, turn_over}
 use Rattle.writer.specs.Write.{data_bits, written_in, write_in}
@@ -138,7 +139,7 @@ module _ (lay : Layout) (plan : List ℕ) (A : Accepted plan) (sheet old : List 
   verdict-same : read_verdict (other_than lay) plan turned old ≡ read_verdict lay plan sheet old
   unfolding read_verdict
   verdict-same =
-      ap₂ (λ (v : Verdict) (r : Found). v or_else found_verdict r)
+      ap₂ (λ (v : Verdict) (r : Option Burst). v or_else found_verdict r)
       (reads-left (other_than lay) plan A turned old (turned-sheet-form lay plan sheet) ∙ sym (reads-left lay plan A sheet old form)) found-same
 
   report-same : report_read (other_than lay) c turned ≡ report_read lay c sheet

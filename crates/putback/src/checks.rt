@@ -1,17 +1,19 @@
 // The checks before a burst is put back: those of the plan and of the sheet's form, and then of the answer.
-ghost use Rattle.std.specs.Prelude.{◌≡◌, ◌||◌, ◌+◌, ltb, length};
+ghost use Rattle.std.specs.Prelude.{◌≡◌, IfOk, ◌||◌, ◌+◌, ltb, length};
 ghost use Rattle.answer.specs.Answer.{InRange, fields_of};
-ghost use Rattle.plan.specs.Bytes.{code_with};
-ghost use Rattle.plan.specs.Accepted.{AcceptedWith};
+ghost use Rattle.plan.specs.View.{code_in};
+ghost use Rattle.plan.specs.Verdict.{told};
 ghost use Rattle.putback.specs.PutBack.{no_burst, back_checks};
 
 use answer::{Answer, unpack};
 use buffers::call::form_checks;
 use mend::report::report_of;
 use packing::pack_report;
-use plan::entry::header_of;
 use plan::header::Header;
-use plan::verdict::{Verdict, accept, refuse_if};
+use plan::table::WORDS;
+use plan::verdict;
+use plan::verdict::{Refusal, refuse_if};
+use plan::view::{Accepted, View};
 use sparse::few::few;
 
 // The rectangle exceeds the plan's burst, or leaves the sheet.
@@ -27,10 +29,10 @@ fn outside(h: Header, told: Answer) -> bool
 
 // The 64 bits are the answer of no burst under the plan. A rectangle without rows or columns has no cells, and their answer is 0; for any other, the
 // cells that are told have to be few where t is not 0, and their answer is worked out and has to be the one that was handed in, bit for bit.
-fn no_burst(plan: &[u8], h: Header, answer: u64) -> bool
-    requires { AcceptedWith plan.now h }
-    ensures { result ≡ no_burst (code_with plan.now h) answer }
+fn no_burst<'a>(accepted: Accepted<'a>, answer: u64) -> bool
+    ensures { result ≡ no_burst (code_in accepted.entry.view) answer }
 {
+    let h = accepted.view.header;
     let told = unpack(answer);
     if outside(h, told) {
         return true;
@@ -48,17 +50,20 @@ fn no_burst(plan: &[u8], h: Header, answer: u64) -> bool
     if !few(h.t, report.cells) {
         return true;
     }
-    pack_report(accept(), report) != answer
+    pack_report(verdict::told(&Ok(())), report) != answer
 }
 
 // The checks before putting back. The lent words are room for the column table.
-pub fn back_checks(plan: &[u8], sheet: &[u8], answer: u64, words: &mut [u64]) -> Verdict
-    requires { length words.old ≡ 2792 }
-    ensures { result ≡ back_checks plan.now sheet.now answer }
+pub fn back_checks<'a>(
+    plan: &'a [u8],
+    sheet: &[u8],
+    answer: u64,
+    words: &mut [u64; WORDS],
+) -> Result<Accepted<'a>, Refusal>
+    ensures told { told result ≡ back_checks plan.now sheet.now answer }
+    ensures view { IfOk result (λ a. a.view.plan.now ≡ plan.now) }
 {
-    let form = form_checks(plan, sheet, words);
-    if form.number != 0 {
-        return form;
-    }
-    refuse_if(no_burst(plan, header_of(plan), answer), 22, 0, 0)
+    let accepted = form_checks(plan, sheet, words)?;
+    refuse_if(no_burst(accepted, answer), Refusal::NotAnAnswer)?;
+    Ok(accepted)
 }

@@ -23,8 +23,8 @@ use Rattle.plan.specs.Verdict.{refusal, verdict_if, ◌or_else◌}
 use Rattle.plan.specs.Bytes.{code_of}
 use Rattle.buffers.specs.Buffers.{unused_verdict, length_checks, read_checks}
 use Rattle.buffers.proofs.Passing.{Lengths, lengths-pass}
-use Rattle.mend.specs.declared.found.Found.{Found}
-use Rattle.mend.specs.declared.found.Found.TheVariants.{Burst, Nothing}
+use Rattle.std.specs.Prelude.{Option, Some, None}
+use Rattle.mend.specs.declared.found.Burst.{Burst}
 use Rattle.mend.specs.Found.{found_verdict}
 use Rattle.reader.specs.Read.{burst_in, read_verdict, sheet_read, bits_read, refused, taken, read_in}
 
@@ -68,9 +68,9 @@ unused-told lay n1 n2 s = go (ltb (first_unused_in lay n1 n2 s) (size_in lay n1 
     go true = inr (inl refl)
     go false = inl refl
 
-found-told : (r : Found) → OneOf (found_verdict r).number
-found-told (Burst top left x) = inl refl
-found-told Nothing = inr (inr refl)
+found-told : (r : Option Burst) → OneOf (found_verdict r).number
+found-told (Some b) = inl refl
+found-told None = inr (inr refl)
 
 module _ (lay : Layout) (plan sheet bits : List ℕ) where
   pub read_told : Lengths lay plan sheet bits → OneOf (read_in lay plan sheet bits).verdict.number

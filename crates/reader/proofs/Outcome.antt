@@ -9,6 +9,7 @@
 --   burst-on            the rectangle of a burst that was found lies on the sheet
 --   burst-sheet, burst-bits, burst-report   turning it over gives the mended sheet; the data of those bytes; its report
 --   burst-taken         all of a read that succeeds
+--   told-refusal        what `?` hands on is told as its refusal, with six zeros
 --   data-first, data-next, data-all   the data taken with nothing written to the sheet: before the first digit, one digit on, and after all
 --
 -- Assumes nothing.
@@ -31,10 +32,11 @@ use Rattle.boxcode.specs.Code.{Code, Formed}
 use Rattle.boxcode.specs.Syndrome.{flip, row_syndrome, column_syndrome}
 use Rattle.boxcode.specs.Burst.{box_cells}
 use Rattle.boxcode.specs.Check.{data_size, data_of}
-use Rattle.boxcode.specs.Reader.{change, mended}
+use Rattle.boxcode.specs.Reader.{change, mended, no_report}
 use Rattle.boxcode.proofs.Fill.{data-cells}
 use Rattle.plan.specs.declared.verdict.Verdict.{Verdict}
-use Rattle.plan.specs.Verdict.{accepted, refusal}
+use Rattle.plan.specs.declared.verdict.Refusal.{Refusal}
+use Rattle.plan.specs.Verdict.{accepted, refusal, refusal_of}
 use Rattle.plan.specs.declared.header.Header.{Header}
 use Rattle.plan.specs.Accepted.{AcceptedWith}
 use Rattle.plan.specs.Bytes.{code_of, code_with}
@@ -46,14 +48,14 @@ use Rattle.payload.specs.Packed.{packed_data}
 use Rattle.payload.specs.Held.{bit_turned_if}
 use Rattle.payload.proofs.CellBit.{held-turned-if}
 use Rattle.mend.specs.declared.report.Report.{Report}
-use Rattle.mend.specs.declared.found.Found.{Found}
-use Rattle.mend.specs.declared.found.Found.TheVariants.{Burst, Nothing}
+use Rattle.std.specs.Prelude.{Option, Some, None, Result, Ok, Err, IsErrAnd}
+use Rattle.mend.specs.declared.found.Burst.{Burst}
 use Rattle.mend.specs.Found.{found_verdict, IsBurst, FoundFor}
 use Rattle.mend.specs.Report.{box_report, report_as}
 use Rattle.mend.proofs.First.{first-report}
 use Rattle.mend.proofs.Rectangle.{found-report}
 use Rattle.reader.specs.Turn.{Rectangle, digits_turned, box_turned}
-use Rattle.reader.specs.Read.{burst_in, read_verdict, sheet_read, bits_read, report_read, refused, taken, mend_outcome, read_in}
+use Rattle.reader.specs.Read.{burst_in, read_verdict, sheet_read, bits_read, report_read, refused, taken, mend_outcome, read_in, told_read}
 use Rattle.reader.proofs.Turned.{digit-row, digit-column, digits-form, box-turned}
 
 -- ---- which checks decide
@@ -71,7 +73,8 @@ module _ (lay : Layout) (plan sheet bits : List ℕ) where
   refused-by v e h =
       ap (λ (u : Verdict). refused u sheet bits) (sym e) ∙ read-refuses (λ z. h (ap (λ (u : Verdict). u.number) (sym e) ∙ z))
 
-  pub lengths-refuse : ((length_checks lay plan sheet bits).number ≡ 0 → ⊥) → refused (length_checks lay plan sheet bits) sheet bits ≡ read_in lay plan sheet bits
+  pub lengths-refuse : ((length_checks lay plan sheet bits).number ≡ 0 → ⊥)
+      → refused (length_checks lay plan sheet bits) sheet bits ≡ read_in lay plan sheet bits
   unfolding read_checks
   lengths-refuse h = refused-by (length_checks lay plan sheet bits) (else-first (length_checks lay plan sheet bits) _ h) h
 
@@ -99,17 +102,17 @@ module _ (lay : Layout) (plan sheet bits : List ℕ) where
         ap (λ (c : Code). mend_outcome lay c sheet bits) (framed-code plan h A.framed) ∙ read-mends (ap (λ (v : Verdict). v.number) after-lengths ∙ e)
 
 -- the sums of the sheet are asked for
-abbrev FoundIn : Layout → Code → List ℕ → Found → Type 0
+abbrev FoundIn : Layout → Code → List ℕ → Option Burst → Type 0
 FoundIn lay c sheet r = FoundFor c (row_syndrome c (cell_in lay c.n1 c.n2 sheet)) (column_syndrome c (cell_in lay c.n1 c.n2 sheet)) r
 
 module _ (lay : Layout) (c : Code) (sheet bits : List ℕ) where
-  pub mend-none : FoundIn lay c sheet Nothing → refused (refusal 14 0 0) sheet bits ≡ mend_outcome lay c sheet bits
+  pub mend-none : FoundIn lay c sheet None → refused (refusal 14 0 0) sheet bits ≡ mend_outcome lay c sheet bits
   unfolding mend_outcome burst_in
   mend-none f = rw (← f.verdict)
 
-  pub mend-some : (top left x : ℕ) → FoundIn lay c sheet (Burst top left x) → taken lay c sheet ≡ mend_outcome lay c sheet bits
+  pub mend-some : (b : Burst) → FoundIn lay c sheet (Some b) → taken lay c sheet ≡ mend_outcome lay c sheet bits
   unfolding mend_outcome burst_in
-  mend-some top left x f = rw (← f.verdict)
+  mend-some b f = rw (← f.verdict)
 
 -- ---- the burst that was found
 
@@ -177,3 +180,8 @@ module _ (c : Code) (F : Formed c) (s : List ℕ) (f : RightForm c.n1 c.n2 s) (t
   pub data-all : data_after (c.b1 * c.b2) ≡ bits_read ByRow c s
   unfolding box_turned
   data-all = burst-bits ByRow c F s (box_turned ByRow c.n1 c.n2 s top left c.b1 c.b2 x) (burst-sheet ByRow c F s f top left x b)
+
+pub told-refusal : (r : Result Report Refusal) (e : Refusal) → IsErrAnd r (λ y. y ≡ e)
+    → told_read r ≡ record { verdict = refusal_of e; report = report_as no_report }
+told-refusal (Ok _) e h = elim h [ ]
+told-refusal (Err y) e h = ap (λ (x : Refusal). record { verdict = refusal_of x; report = report_as no_report }) h

@@ -2,7 +2,7 @@
 -- answer and every byte of both buffers after the call, in either layout of the sheet. It owes nothing to the way in which a burst
 -- is found.
 --
---   burst_in       the first burst by trial that brings both sums to 0, or Nothing
+--   burst_in       the first burst by trial that brings both sums to 0, or None
 --   read_verdict   checks 1 to 13, and then 14, which is told where there is no such burst
 --   sheet_read     the sheet after a read that succeeds: mended
 --   bits_read      the data buffer after it: the data of the mended sheet
@@ -13,8 +13,9 @@
 --   mend_outcome   what check 14 leaves, under a code, where checks 1 to 13 pass
 --   read_in        the read of one sheet
 --   read_outcome   the same of a sheet by row, document 01's layout
---   outcome        an answer of the code with the buffers after it, as an outcome
-use Rattle.std.specs.Prelude.{ℕ, cond, List, eqb}
+--   told_read      what is told of a result of the code: its report, or its refusal with six zeros
+--   outcome        that, with the buffers after it, as an outcome
+use Rattle.std.specs.Prelude.{ℕ, cond, Option, Result, Ok, Err, List, eqb}
 use Rattle.layout.specs.Stored.{cell_in, bytes_in}
 use Rattle.layout.specs.declared.stored.Layout.{Layout}
 use Rattle.layout.specs.declared.stored.Layout.TheVariants.{ByRow}
@@ -22,17 +23,18 @@ use Rattle.boxcode.specs.Code.{Code}
 use Rattle.boxcode.specs.Syndrome.{row_syndrome, column_syndrome}
 use Rattle.boxcode.specs.Reader.{mended, no_report}
 use Rattle.plan.specs.declared.verdict.Verdict.{Verdict}
-use Rattle.plan.specs.Verdict.{accepted, ◌or_else◌}
+use Rattle.plan.specs.declared.verdict.Refusal.{Refusal}
+use Rattle.plan.specs.Verdict.{accepted, ◌or_else◌, refusal_of}
 use Rattle.plan.specs.Bytes.{code_of}
 use Rattle.buffers.specs.Buffers.{read_checks}
 use Rattle.payload.specs.Packed.{packed_data}
 use Rattle.mend.specs.declared.report.Report.{Report}
 use Rattle.mend.specs.Report.{report_as}
-use Rattle.mend.specs.declared.found.Found.{Found}
+use Rattle.mend.specs.declared.found.Burst.{Burst}
 use Rattle.mend.specs.Found.{found_verdict, found_report, first_burst}
 use Rattle.reader.specs.declared.answer.Answer.{Answer}
 
-unfoldable pub burst_in : Layout → Code → List ℕ → Found
+unfoldable pub burst_in : Layout → Code → List ℕ → Option Burst
 burst_in lay c sheet = let s = cell_in lay c.n1 c.n2 sheet in first_burst c (row_syndrome c s) (column_syndrome c s)
 
 unfoldable pub read_verdict : Layout → (plan sheet bits : List ℕ) → Verdict
@@ -74,6 +76,10 @@ read_in lay plan sheet bits =
 
 abbrev pub read_outcome : (plan sheet bits : List ℕ) → Outcome
 read_outcome plan sheet bits = read_in ByRow plan sheet bits
+
+abbrev pub told_read : Result Report Refusal → Answer
+told_read (Ok r) = record { verdict = accepted; report = r }
+told_read (Err e) = record { verdict = refusal_of e; report = report_as no_report }
 
 abbrev pub outcome : Answer → List ℕ → List ℕ → Outcome
 outcome r sheet bits = record { verdict = r.verdict; report = r.report; sheet = sheet; bits = bits }

@@ -1,10 +1,9 @@
-// The answer of the reader.
+// The answer of the reader, as it is told.
 ghost use Rattle.std.specs.Prelude.{◌≡◌};
-ghost use Rattle.boxcode.specs.Reader.{no_report};
-ghost use Rattle.mend.specs.Report.{report_as};
+ghost use Rattle.reader.specs.Read.{told_read};
 
 use mend::report::Report;
-use plan::verdict::Verdict;
+use plan::verdict::{Refusal, Verdict};
 
 // The number of document 01's table with its places, and the report: six zeros where the number is not 0.
 #[derive(Clone, Copy)]
@@ -13,19 +12,29 @@ pub struct Answer {
     pub report: Report,
 }
 
-// A refusal.
-pub fn refused_as(verdict: Verdict) -> Answer
-    ensures { result ≡ record { verdict = verdict; report = report_as no_report } }
+// What is told of a read: its report, or why there is none.
+pub fn tell(read: Result<Report, Refusal>) -> Answer
+    ensures { result ≡ told_read read }
 {
-    Answer {
-        verdict,
-        report: Report {
-            cells: 0,
-            top: 0,
-            left: 0,
-            height: 0,
-            width: 0,
-            pattern: 0,
+    match read {
+        Ok(report) => Answer {
+            verdict: Verdict {
+                number: 0,
+                p: 0,
+                q: 0,
+            },
+            report,
+        },
+        Err(refusal) => Answer {
+            verdict: refusal.told(),
+            report: Report {
+                cells: 0,
+                top: 0,
+                left: 0,
+                height: 0,
+                width: 0,
+                pattern: 0,
+            },
         },
     }
 }

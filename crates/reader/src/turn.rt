@@ -27,9 +27,7 @@ pub fn turn_box(
     requires sheet_len { length sheet.old ≡ size_in lay n1 n2 }
     ensures { sheet.new ≡ box_turned lay n1 n2 sheet.old top left b1 b2 x }
 {
-    let size = b1 * b2;
-    let mut k = 0;
-    while k < size {
+    for k in 0..b1 * b2 {
         turn_in(
             sheet,
             lay,
@@ -39,7 +37,6 @@ pub fn turn_box(
             left + k % b2,
             (x >> k) % 2 == 1,
         );
-        k += 1;
     }
 }
 
@@ -69,11 +66,8 @@ pub fn turned_byte(
     if (top + b1) * size <= k {
         return y;
     }
-    let count = b1 * b2;
-    let mut m = 0;
-    while m < count {
+    for m in 0..b1 * b2 {
         y = byte_turned(y, k, n2, top + m / b2, left + m % b2, (x >> m) % 2 == 1);
-        m += 1;
     }
     y
 }

@@ -3,12 +3,13 @@
 
 ghost use Rattle.std.specs.Prelude.{◌≡◌, ◌++◌, length};
 ghost use Rattle.layout.specs.Number.{low_bytes};
+ghost use Rattle.plan.specs.Verdict.{told};
 ghost use Rattle.runsums.specs.RunSums.{summed, sum_run};
 
 use buffers::call::sums_checks;
 use layout::number::put_u32;
-use plan::entry::header_of;
-use plan::verdict::Verdict;
+use plan::table::WORDS;
+use plan::verdict::Refusal;
 use syndrome::gather::sums;
 use syndrome::run::Run;
 use syndrome::sums::Sums;
@@ -23,15 +24,18 @@ fn put_sums(s: Sums, room: &mut [u8])
 }
 
 // The two sums of the rows from first up to but not including past, or turns back with the buffer as it was.
-pub fn sum_run(plan: &[u8], sheet: &[u8], first: usize, past: usize, room: &mut [u8]) -> Verdict
-    ensures { summed result room.new ≡ sum_run plan.now sheet.now first past room.old }
+pub fn sum_run(
+    plan: &[u8],
+    sheet: &[u8],
+    first: usize,
+    past: usize,
+    room: &mut [u8],
+) -> Result<(), Refusal>
+    ensures { summed (told result) room.new ≡ sum_run plan.now sheet.now first past room.old }
 {
-    let mut columns = [0u64; 2792];
-    let verdict = sums_checks(plan, sheet, room, &mut columns);
-    if verdict.number != 0 {
-        return verdict;
-    }
+    let mut columns = [0u64; WORDS];
+    let accepted = sums_checks(plan, sheet, room, &mut columns)?;
     let run = Run { first, past };
-    put_sums(sums(sheet, plan, header_of(plan), &columns, run), room);
-    verdict
+    put_sums(sums(sheet, accepted.view, &columns, run), room);
+    Ok(())
 }

@@ -21,8 +21,8 @@ use Rattle.plan.specs.Bytes.{code_of}
 use Rattle.buffers.specs.Buffers.{read_two_checks}
 use Rattle.buffers.proofs.Passing.{two-zero, reads-pass}
 use Rattle.mend.specs.declared.report.Report.{Report}
-use Rattle.mend.specs.declared.found.Found.{Found}
-use Rattle.mend.specs.declared.found.Found.TheVariants.{Burst, Nothing}
+use Rattle.std.specs.Prelude.{Option, Some, None}
+use Rattle.mend.specs.declared.found.Burst.{Burst}
 use Rattle.mend.specs.Found.{found_verdict}
 use Rattle.reader.specs.Read.{Outcome, burst_in, taken, refused, mend_outcome}
 use Rattle.reader.proofs.Outcome.{read-mends}
@@ -84,7 +84,7 @@ pub decide-alone : (c : Code) (first second old : List ℕ)
 unfolding mend_outcome decide ◌or_else◌
 decide-alone c first second old = go (burst_in ByRow c second)
   where
-    go : (r : Found) → let o = cond (eqb (found_verdict r).number 0) (taken ByRow c second) (refused (found_verdict r) second old) in
+    go : (r : Option Burst) → let o = cond (eqb (found_verdict r).number 0) (taken ByRow c second) (refused (found_verdict r) second old) in
         alone o ≡ decide (fails first old) o old
-    go (Burst top left x) = refl
-    go Nothing = refl
+    go (Some b) = refl
+    go None = refl

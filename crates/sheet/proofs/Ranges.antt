@@ -44,8 +44,8 @@ use Rattle.buffers.specs.Buffers.{sheet_checks, length_checks, write_checks, rea
 use Rattle.buffers.specs.Buffers.{transpose_checks}
 use Rattle.buffers.proofs.Passing.{size-most, sheet-zero, length-zero, scans-fit}
 use Rattle.mend.specs.Report.{report_as}
-use Rattle.mend.specs.declared.found.Found.{Found}
-use Rattle.mend.specs.declared.found.Found.TheVariants.{Burst, Nothing}
+use Rattle.std.specs.Prelude.{Option, Some, None}
+use Rattle.mend.specs.declared.found.Burst.{Burst}
 use Rattle.mend.specs.Found.{found_verdict}
 use Rattle.mend.proofs.First.{first-report}
 use Rattle.reader.proofs.Cases.{zero-reads}
@@ -201,9 +201,9 @@ stack-fits plan stack numbers bits =
     (λ _. else-fits (numbers_length n numbers) _ (length-fits 21 numbers (n * numbers_size) (omega arith))
     (λ _. length-fits 12 bits (n * data_bytes c) (omega arith))))
 
-found-fits : (r : Found) → SmallVerdict (found_verdict r)
-found-fits (Burst top left x) = accepted-fits
-found-fits Nothing = record { number_fits = omega arith; p_fits = omega arith; q_fits = omega arith; silent = λ _. (refl, refl) }
+found-fits : (r : Option Burst) → SmallVerdict (found_verdict r)
+found-fits (Some b) = accepted-fits
+found-fits None = record { number_fits = omega arith; p_fits = omega arith; q_fits = omega arith; silent = λ _. (refl, refl) }
 
 pub read_fits : (lay : Layout) (plan sheet bits : List ℕ) → SmallVerdict (read_in lay plan sheet bits).verdict
 unfolding read_in read_verdict
@@ -211,7 +211,7 @@ read_fits lay plan sheet bits =
     go (eqb (read_verdict lay plan sheet bits).number 0)
     (else-fits (read_checks lay plan sheet bits) (found_verdict found) (reads_fit lay plan sheet bits) (λ _. found-fits found))
   where
-    found : Found
+    found : Option Burst
     found = burst_in lay (code_of plan) sheet
 
     go : (t : Bool) → SmallVerdict (read_verdict lay plan sheet bits)

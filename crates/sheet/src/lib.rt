@@ -3,8 +3,10 @@
 #![tactic(auto)]
 
 ghost use Rattle.std.specs.Prelude.{◌≡◌};
+ghost use Rattle.answer.specs.Answer.{InRange, packed};
+ghost use Rattle.plan.specs.Verdict.{told};
 ghost use Rattle.houseplan.specs.HousePlan.{house_parameters};
-ghost use Rattle.sheet.specs.Calls.{plan_answer, parameters, make_reply, make_call, write_reply, write_call, read_reply, read_call};
+ghost use Rattle.sheet.specs.Calls.{verdict_fields, plan_answer, parameters, make_reply, make_call, write_reply, write_call, read_reply, read_call};
 ghost use Rattle.sheet.specs.Calls.{sums_reply, sums_call, alter_reply, alter_call, read_two_reply, read_two_call, difference_answer};
 ghost use Rattle.sheet.specs.Calls.{read_stack_reply, read_stack_call, turn_reply, turn_call, put_back_reply, put_back_call};
 ghost use Rattle.layout.specs.declared.stored.Layout.TheVariants.{ByRow, ByColumn};
@@ -19,7 +21,10 @@ use layout::stored::Layout;
 use maker::making::make;
 use maker::parameters::Parameters;
 use packing::pack_report;
+use plan::table::WORDS;
+use plan::verdict::{Refusal, told};
 use putback::putting::put_back;
+use reader::answer::tell;
 use reader::read::read;
 use reader::search::Search;
 use runsums::sum_run;
@@ -28,13 +33,21 @@ use stack::reading::read_stack;
 use transpose::turning::turn_over;
 use writer::writing::write;
 
+// A refusal's number and places, or that there is none, packed.
+fn pack_told<T>(checked: &Result<T, Refusal>) -> u64
+    requires { InRange (verdict_fields (told checked.now)) }
+    ensures { result ≡ packed (verdict_fields (told checked.now)) }
+{
+    let v = told(checked);
+    pack_places(v.number, v.p, v.q)
+}
+
 // Tests a plan: the number and places of the first check of document 01 that fails, or 0.
 pub fn sheet_plan_test(plan: &[u8]) -> u64
     ensures { result ≡ plan_answer plan.now }
 {
-    let mut words = [0u64; 2792];
-    let tested = test(plan, &mut words);
-    pack_places(tested.number, tested.p, tested.q)
+    let mut words = [0u64; WORDS];
+    pack_told(&test(plan, &mut words))
 }
 
 // Makes a plan from two polynomials, each by its degree and the coefficients below it: every byte of it, whatever the buffer held.
@@ -63,24 +76,21 @@ pub fn sheet_plan_make(
         rh: rh as usize,
         hlow: h_low as u64,
     };
-    let made = make(given, plan);
-    pack_places(made.number, made.p, made.q)
+    pack_told(&make(given, plan))
 }
 
 // Makes the house plan: what sheet_plan_make makes from the house numbers.
 pub fn sheet_house_plan(plan: &mut [u8]) -> u64
     ensures { make_reply result plan.new ≡ make_call house_parameters plan.old }
 {
-    let house = make_house(plan);
-    pack_places(house.number, house.p, house.q)
+    pack_told(&make_house(plan))
 }
 
 // Writing in a layout, its answer packed.
 fn write_packed(lay: Layout, plan: &[u8], bits: &[u8], sheet: &mut [u8]) -> u64
     ensures { write_reply result sheet.new ≡ write_call lay plan.now bits.now sheet.old }
 {
-    let wrote = write(lay, plan, bits, sheet);
-    pack_places(wrote.number, wrote.p, wrote.q)
+    pack_told(&write(lay, plan, bits, sheet))
 }
 
 // Writes the sheet that carries the data: every byte of it, whatever it held.
@@ -101,7 +111,7 @@ pub fn sheet_write_by_column(plan: &[u8], bits: &[u8], sheet: &mut [u8]) -> u64
 fn read_packed(by: Search, lay: Layout, plan: &[u8], sheet: &mut [u8], bits: &mut [u8]) -> u64
     ensures { read_reply result sheet.new bits.new ≡ read_call lay plan.now sheet.old bits.old }
 {
-    let a = read(by, lay, plan, sheet, bits);
+    let a = tell(read(by, lay, plan, sheet, bits));
     pack_report(a.verdict, a.report)
 }
 
@@ -131,8 +141,7 @@ pub fn sheet_read_by_trial(plan: &[u8], sheet: &mut [u8], bits: &mut [u8]) -> u6
 fn turn_packed(lay: Layout, plan: &[u8], source: &[u8], target: &mut [u8]) -> u64
     ensures { turn_reply result target.new ≡ turn_call lay plan.now source.now target.old }
 {
-    let turned = turn_over(lay, plan, source, target);
-    pack_places(turned.number, turned.p, turned.q)
+    pack_told(&turn_over(lay, plan, source, target))
 }
 
 // A sheet stored by rows into one stored by columns: every byte of the target, whatever it held.
@@ -153,16 +162,14 @@ pub fn sheet_to_rows(plan: &[u8], source: &[u8], target: &mut [u8]) -> u64
 pub fn sheet_sums(plan: &[u8], sheet: &[u8], first: u32, past: u32, sums: &mut [u8]) -> u64
     ensures { sums_reply result sums.new ≡ sums_call plan.now sheet.now first past sums.old }
 {
-    let summed = sum_run(plan, sheet, first as usize, past as usize, sums);
-    pack_places(summed.number, summed.p, summed.q)
+    pack_told(&sum_run(plan, sheet, first as usize, past as usize, sums))
 }
 
 // Turns one data bit of a sheet over, and brings the check cells up to date: the sheet is then as written afresh from the altered data.
 pub fn sheet_alter(plan: &[u8], sheet: &mut [u8], position: u32) -> u64
     ensures { alter_reply result sheet.new ≡ alter_call plan.now sheet.old position }
 {
-    let altered = alter(plan, sheet, position as usize);
-    pack_places(altered.number, altered.p, altered.q)
+    pack_told(&alter(plan, sheet, position as usize))
 }
 
 // Reads two scans of one film, each with a burst of its own or none: writes the data, and leaves both scans as they are.
@@ -170,8 +177,7 @@ pub fn sheet_read_two(plan: &[u8], first: &[u8], second: &[u8], bits: &mut [u8])
     ensures { read_two_reply result bits.new
         ≡ read_two_call plan.now first.now second.now bits.old }
 {
-    let told = read_two(plan, first, second, bits);
-    pack_places(told.number, told.p, told.q)
+    pack_told(&read_two(plan, first, second, bits))
 }
 
 // The row where two scans of one film first differ, as it lies in the second scan: the byte where it starts, and its length.
@@ -187,14 +193,12 @@ pub fn sheet_read_stack(plan: &[u8], stack: &mut [u8], numbers: &mut [u8], bits:
     ensures { read_stack_reply result (lent stack.new numbers.new bits.new)
         ≡ read_stack_call plan.now stack.old numbers.old bits.old }
 {
-    let whole = read_stack(plan, stack, numbers, bits);
-    pack_places(whole.number, whole.p, whole.q)
+    pack_told(&read_stack(plan, stack, numbers, bits))
 }
 
 // Puts a burst back: turns the cells over that an answer of the reader tells, so that the scan is restored.
 pub fn sheet_put_back(plan: &[u8], sheet: &mut [u8], answer: u64) -> u64
     ensures { put_back_reply result sheet.new ≡ put_back_call plan.now sheet.old answer }
 {
-    let put = put_back(plan, sheet, answer);
-    pack_places(put.number, put.p, put.q)
+    pack_told(&put_back(plan, sheet, answer))
 }

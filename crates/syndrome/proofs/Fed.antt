@@ -1,14 +1,12 @@
 -- The sums of the rows of a run fed so far, its last row first:
 --
 --   fed-none    where no row is fed, the sums are 0
---   fed-after   the rows from number k on are those after number k - 1
 --   fed-row     row number k is fed after those from k + 1 on
---   fed-all     when row number 0 is fed, the sums are those of the run
 --   sheet-sums  the run from 0 to n1 has the two sums of the sheet
 --
 -- Assumes nothing.
 use mathlib.Core.Path.{◌≡◌, sym, ap, ◌∙◌}
-use Prim.Native.Nat.{ℕ, ◌+◌, ◌-◌, ◌≤◌, ◌<◌}
+use Prim.Native.Nat.{ℕ, ◌+◌, ◌≤◌, ◌<◌}
 use native.Mathlib.Omega.{arith}
 use lib.Bits.{bit_xor}
 use Rattle.gf2.specs.Xor.{◌⊕◌}
@@ -37,9 +35,6 @@ module _ (c : Code) (s : Cells) where
       two_none _ _ (run-sum-empty c.n1 rows (run.first + k) run.past (omega arith))
       (run-sum-empty c.n1 columns (run.first + k) run.past (omega arith))
 
-  pub fed-after : (run : Run) (k : ℕ) (held : Sums) → 0 < k → Fed c s run k held → Fed c s run (k - 1 + 1) held
-  fed-after run k held l F = let e : k - 1 + 1 ≡ k = omega arith in rw e F
-
   pub fed-row : (run : Run) (k : ℕ) (held r : Sums) → k < run_rows c.n1 run → Fed c s run (k + 1) held → RowSums c s (run.first + k) r
       → Fed c s run k (record { row = bit_xor held.row r.row; column = bit_xor held.column r.column })
   unfolding row_syndrome_in column_syndrome_in
@@ -53,9 +48,6 @@ module _ (c : Code) (s : Cells) where
           let b = run.past in
           let e : run.first + (k + 1) ≡ i + 1 = omega arith in
           ap (λ (a : ℕ). run_sum n f a b ⊕ f i) e ∙ xor_comm (run_sum n f (i + 1) b) (f i) ∙ sym (run-sum-before n f i b (omega arith) (omega arith))
-
-  pub fed-all : (run : Run) (r : Sums) → Fed c s run 0 r → RunSums c s run.first run.past r
-  fed-all run r F = let e : run.first + 0 ≡ run.first = omega arith in rw e at F
 
   pub sheet-sums : (r : Sums) → RunSums c s 0 c.n1 r → SheetSums c s r
   sheet-sums r R = two-same _ _ _ _ r (row-whole c s) (column-whole c s) R

@@ -1,6 +1,7 @@
 -- A walk along the bytes of a row:
 --
 --   cell-in-byte                     the cells of a byte of a row are its digits
+--   row_inside                       the bytes of a row stand in those of the sheet
 --   Line, line_first, line-next      where the walk stands after b bytes
 --   words_of                         the tables of a row are as gathering asks
 --   row-tables, column-tables        the weights by the tables are those of the code
@@ -10,18 +11,18 @@
 use mathlib.Core.Path.{◌≡◌, sym, ap, ap₂, ◌∙◌}
 use mathlib.Core.Bool.{Bool}
 use mathlib.Core.List.{List}
-use Prim.Native.Nat.{ℕ, ◌+◌, ◌-◌, ◌*◌, ◌/◌, ◌%◌, ◌<◌, min}
-use native.Mathlib.Nat.{mod-lt}
+use Prim.Native.Nat.{ℕ, ◌+◌, ◌-◌, ◌*◌, ◌/◌, ◌%◌, ◌≤◌, ◌<◌, min}
+use native.Mathlib.Nat.{mod-lt, mul-le-mul_right, suc-mul}
 use native.Mathlib.Omega.{arith}
 use lib.Bits.{bit_xor}
-use lib.ListN.{get_or}
+use lib.ListN.{length, get_or}
 use lib.Arith.{digits_lt}
 use Rattle.finite.specs.Search.{bit}
 use Rattle.gf2.specs.Xor.{◌⊕◌, pick}
 use Rattle.gf2.specs.Sum.{chosen_sum}
 use Rattle.gf2.proofs.Xor.{xor_is}
 use Rattle.gf2.proofs.Sum.{sum-none}
-use Rattle.layout.specs.Cells.{row_bytes, byte_of, cell_of}
+use Rattle.layout.specs.Cells.{row_bytes, sheet_bytes, byte_of, cell_of}
 use Rattle.boxcode.specs.Code.{row_weight, column_weight}
 use Rattle.boxcode.specs.Syndrome.{Cells}
 use Rattle.boxcode.specs.Run.{row_sum}
@@ -40,6 +41,14 @@ cell-in-byte n2 s i b t l =
     let r : (8 * b + t) % 8 ≡ t = omega arith in
     ap₂ (λ (x y : ℕ). bit (get_or s (i * row_bytes n2 + x) 0) y) q r
 
+-- the bytes of row i stand in those of the sheet
+pub row_inside : (n1 n2 i size : ℕ) (s : List ℕ) → size ≡ row_bytes n2 → length s ≡ sheet_bytes n1 n2 → i < n1 → i * size + size ≤ length s
+unfolding sheet_bytes
+row_inside n1 n2 i size s e f l =
+    let rows : (i + 1) * size ≤ n1 * size = mul-le-mul_right size (omega arith) in
+    let all : n1 * size ≡ length s = rw e (sym f) in
+    omega (arith, suc-mul i size, rows, all)
+
 -- after b bytes: the sums of the cells passed, of weights f and g
 pub record Line (n2 : ℕ) (p : ℕ → Bool) (f g : ℕ → ℕ) (row column b : ℕ) : Type 0 where
   pub row_is : row ≡ chosen_sum (min (8 * b) n2) p f
@@ -54,7 +63,8 @@ line_first n2 p f g =
     }
 
 pub line-next : (n2 : ℕ) (p : ℕ → Bool) (f g : ℕ → ℕ) (row column b x : ℕ) (r : Sums) → Line n2 p f g row column b → 8 * b < n2
-    → ((t : ℕ) → t < 8 → p (8 * b + t) ≡ bit x t) → TwoSums (byte_sum f x (8 * b) (min 8 (n2 - 8 * b))) (byte_sum g x (8 * b) (min 8 (n2 - 8 * b))) r
+    → ((t : ℕ) → t < 8 → p (8 * b + t) ≡ bit x t)
+    → TwoSums (byte_sum f x (8 * b) (min 8 (n2 - 8 * b))) (byte_sum g x (8 * b) (min 8 (n2 - 8 * b))) r
     → Line n2 p f g (bit_xor row r.row) (bit_xor column r.column) (b + 1)
 line-next n2 p f g row column b x r L l cells two = record {
   row_is = added f row r.row L.row_is two.row;

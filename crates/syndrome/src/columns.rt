@@ -1,8 +1,8 @@
-// Gathering the two sums of a sheet that is stored by columns: a byte of a column, a block of eight rows, the sheet from its last block to its first.
+// Gathering the two sums of a sheet that is stored by columns: a byte of a column, a block of eight rows, the sheet from its last block
+// to its first.
 ghost use Rattle.std.specs.Prelude.{◌≡◌, ◌+◌, ◌*◌, ◌%◌, ◌<◌, length};
 ghost use Rattle.layout.specs.Cells.{row_bytes, sheet_bytes};
-ghost use Rattle.plan.specs.Header.{Framed};
-ghost use Rattle.plan.specs.Bytes.{code_with};
+ghost use Rattle.plan.specs.View.{code_in};
 ghost use Rattle.plan.specs.Table.{Unpacked};
 ghost use Rattle.syndrome.specs.Gather.{RunSums};
 ghost use Rattle.syndrome.specs.Columns.{by_column, tabled, Tables, PartSums};
@@ -12,7 +12,8 @@ use crate::sums::Sums;
 use layout::cells::row_bytes;
 use layout::cycle::after;
 use plan::header::Header;
-use plan::table::{Table, unpack};
+use plan::table::{Table, WORDS};
+use plan::view::View;
 
 // The sums of the cells of column j that stand in block b, the rows from 8 × b on: one byte. Rows and columns have changed places in
 // it, and so have the two tables and the two sums. The V entries of column j are those of q, its number modulo b2.
@@ -50,19 +51,13 @@ fn block_sums(sheet: &[u8], h: Header, rows: &[u64], columns: &[u64], b: usize) 
     requires b_bound { b < row_bytes h.n1 }
     ensures { RunSums (tabled h rows.now columns.now) (by_column h.n1 h.n2 sheet.now) (8 * b) (8 * b + 8) result }
 {
-    let count = h.n2;
-    let mut row = 0u64;
-    let mut column = 0u64;
+    let mut held = Sums { row: 0, column: 0 };
     let mut q = 0;
-    let mut j = 0;
-    while j < count {
-        let s = part_sums(sheet, h, rows, columns, b, j, q);
-        row = row ^ s.row;
-        column = column ^ s.column;
+    for j in 0..h.n2 {
+        held = held ^ part_sums(sheet, h, rows, columns, b, j, q);
         q = after(q, h.b2);
-        j += 1;
     }
-    Sums { row, column }
+    held
 }
 
 // The sums of the sheet by its two tables in words. At each step what is held is the two sums of the rows fed so far (02 b).
@@ -72,14 +67,8 @@ fn tabled_sums(sheet: &[u8], h: Header, rows: &[u64], columns: &[u64]) -> Sums
     ensures { RunSums (tabled h rows.now columns.now) (by_column h.n1 h.n2 sheet.now) 0 h.n1 result }
 {
     let mut held = Sums { row: 0, column: 0 };
-    let mut b = row_bytes(h.n1);
-    while 0 < b {
-        b -= 1;
-        let s = block_sums(sheet, h, rows, columns, b);
-        held = Sums {
-            row: held.row ^ s.row,
-            column: held.column ^ s.column,
-        };
+    for b in (0..row_bytes(h.n1)).rev() {
+        held = held ^ block_sums(sheet, h, rows, columns, b);
     }
     held
 }
@@ -87,13 +76,13 @@ fn tabled_sums(sheet: &[u8], h: Header, rows: &[u64], columns: &[u64]) -> Sums
 // The two sums of a sheet that is stored by columns, fed in blocks of eight rows from the last to the first (02 b): a byte of a column
 // has one cell of each row of a block. Each column asks for the entries of all rows, so the row table is unpacked too, into words of
 // this function's own, which no caller has to hold.
-pub fn column_sums(sheet: &[u8], plan: &[u8], h: Header, columns: &[u64]) -> Sums
-    requires framed { Framed plan.now h }
-    requires unpacked { Unpacked plan.now h columns.now }
-    requires sheet_len { length sheet.now ≡ sheet_bytes h.n2 h.n1 }
-    ensures { RunSums (code_with plan.now h) (by_column h.n1 h.n2 sheet.now) 0 h.n1 result }
+pub fn column_sums<'a>(sheet: &[u8], view: View<'a>, columns: &[u64]) -> Sums
+    requires unpacked { Unpacked view.plan.now view.header columns.now }
+    requires sheet_len { length sheet.now ≡ sheet_bytes view.header.n2 view.header.n1 }
+    ensures { RunSums (code_in view.entry) (by_column view.entry.header.n1 view.entry.header.n2 sheet.now) 0 view.entry.header.n1 result }
 {
-    let mut rows = [0u64; 2792];
-    unpack(plan, h, Table::Rows, &mut rows);
+    let h = view.header;
+    let mut rows = [0u64; WORDS];
+    view.unpack(Table::Rows, &mut rows);
     tabled_sums(sheet, h, &rows, columns)
 }

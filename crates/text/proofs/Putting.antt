@@ -5,10 +5,10 @@
 --   put-length     a buffer keeps its length
 --   put_front      text at the start of a buffer with room for it is what stands there
 --   put-printed    so it is printed there
---   put-none, put-take   nothing is written; one byte more of a list that is copied
+--   put-none, put-copied   nothing is written; a whole text is copied to the start
 --   decimal-one, decimal-more   a number of one digit, and one of more: the last digit after all the others
 --   decimal-most   a number below 10 to the power k + 1 has at most k + 1 digits
---   each_more      one text more
+--   each_more, each_put   one text more; the same, written after those before it
 --   hex-length     two digits a byte
 --
 -- Assumes nothing.
@@ -16,12 +16,12 @@ use mathlib.Core.Path.{◌≡◌, refl, sym, ap, ◌∙◌}
 use mathlib.Core.Bool.{Bool, true, false}
 use mathlib.Core.List.{List, [], ◌∷◌, ◌++◌, append_assoc, append-nil}
 use Prim.Native.Nat.{ℕ, zero, suc, ◌+◌, ◌*◌, ◌/◌, ◌%◌, ◌^◌, ◌≤◌, ◌<◌}
-use native.Mathlib.Nat.{add-zero, pow-suc}
+use native.Mathlib.Nat.{add-zero, zero-add, pow-suc}
 use native.Mathlib.Numerals.{add-one}
 use native.Mathlib.Omega.{arith}
 use borrow.Author.Tests.{lt-ltb, le-ltb, ltb-true, ltb-false}
 use lib.Dec.{ltb}
-use lib.ListN.{length, take, get_or, set, length-append}
+use lib.ListN.{length, take, drop, get_or, set, length-append}
 use lib.Seq.{sets, length-sets, sets-eq, take-append_seam, take-suc, length-take-le}
 use Rattle.text.specs.Text.{digit_of, decimal_within, decimal_bytes, each, hex_bytes, hex_text, Put, Printed}
 
@@ -59,9 +59,9 @@ put-printed {a} {b} {r} {xs} {ys} p h e =
 pub put-none : (a : List ℕ) (n : ℕ) → Put a n [] a n
 put-none a n = record { bytes = refl; past = omega arith }
 
--- one byte more of a list that is copied
-pub put-take : (a b s : List ℕ) {i : ℕ} → i < length s → Put a 0 (take i s) b i → Put a 0 (take (i + 1) s) (set b i (get_or s i 0)) (i + 1)
-put-take a b s {i} h p = rw (add-one, take-suc s i 0) (put-more p (record { bytes = refl; past = omega arith }))
+-- a whole text, copied to the start
+pub put-copied : (a xs : List ℕ) → length xs ≤ length a → Put a 0 xs (xs ++ drop (length xs) a) (length xs)
+put-copied a xs h = record { bytes = sym (sets-eq xs a 0 (omega arith) ∙ ap (λ (k : ℕ). xs ++ drop k a) (zero-add (length xs))); past = omega arith }
 
 -- ---- decimal
 
@@ -117,6 +117,11 @@ each_snoc f (y ∷ s) x = ap (λ (t : List ℕ). f y ++ t) (each_snoc f s x) ∙
 
 pub each_more : (f : ℕ → List ℕ) (s : List ℕ) (i : ℕ) → i < length s → each f (take (i + 1) s) ≡ each f (take i s) ++ f (get_or s i 0)
 each_more f s i h = rw (add-one, take-suc s i 0) (each_snoc f (take i s) (get_or s i 0))
+
+-- one text more, after those of the first i numbers
+pub each_put : (f : ℕ → List ℕ) (s : List ℕ) (i : ℕ) {a b c : List ℕ} {n m k : ℕ} → i < length s
+    → Put a n (each f (take i s)) b m → Put b m (f (get_or s i 0)) c k → Put a n (each f (take (i + 1) s)) c k
+each_put f s i h p q = put_as (put-more p q) (sym (each_more f s i h))
 
 pub hex-length : (s : List ℕ) → length (hex_text s) ≡ 2 * length s
 unfolding hex_text each hex_bytes

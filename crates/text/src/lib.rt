@@ -4,7 +4,7 @@
 ghost use Rattle.std.specs.Prelude.{◌≡◌, [], ◌∷◌, ◌+◌, ◌*◌, ◌≤◌, ◌<◌, length};
 ghost use Rattle.text.specs.Text.{digit_of, decimal_bytes, field, hex_bytes, hex_text, line_bytes, lines_text, Put};
 
-// One byte.
+// One byte. (Std writes a byte by `out[n] = b` alone: this promises `Put`, as the others do.)
 pub fn put_byte(out: &mut [u8], n: usize, b: u8) -> usize
     requires { n < length out.old }
     ensures { Put out.old n (b ∷ []) out.new result }
@@ -13,7 +13,7 @@ pub fn put_byte(out: &mut [u8], n: usize, b: u8) -> usize
     n + 1
 }
 
-// A digit as a character, hexadecimal digits in small letters.
+// A digit as a character, hexadecimal digits in small letters. (Std's `char::from_digit` gives an `Option<char>`: no plainer.)
 pub fn digit(d: u8) -> u8
     requires { d < 16 }
     ensures { result ≡ digit_of d }
@@ -58,10 +58,8 @@ pub fn put_hexes(out: &mut [u8], n: usize, s: &[u8]) -> usize
     ensures { Put out.old n (hex_text s.now) out.new result }
 {
     let mut m = n;
-    let mut i = 0;
-    while i < s.len() {
-        m = put_hex(out, m, s[i]);
-        i += 1;
+    for b in s {
+        m = put_hex(out, m, *b);
     }
     m
 }
@@ -83,10 +81,8 @@ pub fn put_lines(out: &mut [u8], n: usize, s: &[u64]) -> usize
     ensures upper_bound { result ≤ n + 21 * length s.now }
 {
     let mut m = n;
-    let mut i = 0;
-    while i < s.len() {
-        m = put_line(out, m, s[i] as usize);
-        i += 1;
+    for x in s {
+        m = put_line(out, m, *x as usize);
     }
     m
 }

@@ -5,19 +5,19 @@
 --   byte_fits                      the place of a byte fits 64 bits
 --   rows-within                    some of the rows have at most the bytes of all of them
 --   row-end                        row j of the target ends in the target
---   begun-none, begun_more, begun-row, begun_all   no byte, one byte more, a whole row, and all bytes of the exchanged sheet
+--   begun_more, begun_all          one byte more, and all bytes of the exchanged sheet
 --
 -- Assumes nothing.
 use mathlib.Core.Path.{◌≡◌, sym, ap, ap₂, ◌∙◌}
 use mathlib.Core.Bool.{Bool, true, false, cond}
 use mathlib.Core.List.{List}
 use Prim.Native.Nat.{ℕ, zero, suc, ◌+◌, ◌-◌, ◌*◌, ◌/◌, ◌%◌, ◌^◌, ◌≤◌, ◌<◌, min}
-use native.Mathlib.Nat.{zero-mul, suc-mul, pow-succ', mul-le-mul, mul-le-mul_right}
+use native.Mathlib.Nat.{suc-mul, pow-succ', mul-le-mul, mul-le-mul_right}
 use native.Mathlib.Numerals.{add-one}
 use native.Mathlib.Decide.{ℕ_discrete}
 use native.Mathlib.Omega.{arith}
 use lib.Dec.{eqb}
-use lib.ListN.{length, get_or, set, length-set}
+use lib.ListN.{get_or, set, length-set}
 use lib.Seq.{ext_get_or, get_or-set_same, get_or-set_other}
 use lib.Arith.{digits_div, digits_mod}
 use lib.Pow.{pow_mono, shl_exact}
@@ -103,9 +103,6 @@ module _ (n1 n2 : ℕ) (s : List ℕ) where
   byte-gathered j b l =
       ap₂ (λ (row place : ℕ). number_of (min 8 (n1 - 8 * place)) (λ t. cell_of n2 s (8 * place + t) row)) (digits_div j l) (digits_mod j l)
 
-  pub begun-none : (t : List ℕ) → length t ≡ sheet_bytes n2 n1 → Begun n1 n2 s (0 * row_bytes n1) t
-  begun-none t e = record { size = e; bytes = λ m l. absurd (let z = zero-mul (row_bytes n1) in omega arith) }
-
   -- the byte that comes next is stored
   stored : (t : List ℕ) (k x : ℕ) → Begun n1 n2 s k t → x ≡ byte_from n1 (exchanged (cell_of n2 s)) k → k < sheet_bytes n2 n1
       → Begun n1 n2 s (k + 1) (set t k x)
@@ -123,16 +120,12 @@ module _ (n1 n2 : ℕ) (s : List ℕ) where
       let l = row-end n1 n2 j lj in
       rw k (stored t (j * row_bytes n1 + b) x g (e ∙ sym (byte-gathered j b lb)) (omega arith))
 
-  pub begun-row : (t : List ℕ) (j b : ℕ) → Begun n1 n2 s (j * row_bytes n1 + b) t → b ≡ row_bytes n1 → Begun n1 n2 s ((j + 1) * row_bytes n1) t
-  begun-row t j b g e =
-      let k : (j + 1) * row_bytes n1 ≡ j * row_bytes n1 + b = rw (add-one j, suc-mul j (row_bytes n1), e) in
-      rw k g
-
-  pub begun_all : (t : List ℕ) → Begun n1 n2 s (n2 * row_bytes n1) t → t ≡ bytes_of n2 n1 (exchanged (cell_of n2 s))
+  pub begun_all : (t : List ℕ) (j : ℕ) → Begun n1 n2 s (j * row_bytes n1) t → n2 ≤ j → t ≡ bytes_of n2 n1 (exchanged (cell_of n2 s))
   unfolding bytes_of sheet_bytes
-  begun_all t g =
+  begun_all t j g a =
       let f = byte_from n1 (exchanged (cell_of n2 s)) in
       ext_get_or 0 t (tabulate (n2 * row_bytes n1) f) (g.size ∙ sym (length-tabulate (n2 * row_bytes n1) f))
       (λ m l.
       let lm : m < n2 * row_bytes n1 = (let z = g.size in omega arith) in
-      g.bytes m lm ∙ sym (get_d_tabulate (n2 * row_bytes n1) f m lm))
+      let all : n2 * row_bytes n1 ≤ j * row_bytes n1 = mul-le-mul_right (row_bytes n1) a in
+      g.bytes m (omega arith) ∙ sym (get_d_tabulate (n2 * row_bytes n1) f m lm))

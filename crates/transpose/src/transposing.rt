@@ -6,7 +6,6 @@ ghost use Rattle.layout.specs.Stored.{Sizes, other_than, size_in, transposed};
 ghost use Rattle.transpose.specs.Exchanged.{exchanged, Begun};
 
 use layout::cells::{byte_of, row_bytes};
-use layout::compare::smaller;
 use layout::stored::Layout;
 
 // The cells of column j in count rows from row i on, in one byte: row i in the lowest bit. From row to row the place moves on by
@@ -19,11 +18,9 @@ fn gathered(source: &[u8], n2: usize, i: usize, j: usize, count: usize) -> u8
     let size = row_bytes(n2);
     let mut k = byte_of(n2, i, j);
     let mut number = 0u8;
-    let mut t = 0;
-    while t < count {
-        number = number + (((source[k] >> (j % 8)) % 2) << t);
+    for t in 0..count {
+        number += ((source[k] >> (j % 8)) % 2) << t;
         k += size;
-        t += 1;
     }
     number
 }
@@ -37,11 +34,9 @@ fn transpose_row(source: &[u8], n1: usize, n2: usize, j: usize, target: &mut [u8
 {
     let size = row_bytes(n1);
     let first = j * size;
-    let mut b = 0;
-    while b < size {
+    for b in 0..size {
         let i = 8 * b;
-        target[first + b] = gathered(source, n2, i, j, smaller(8, n1 - i));
-        b += 1;
+        target[first + b] = gathered(source, n2, i, j, (n1 - i).min(8));
     }
 }
 
@@ -52,10 +47,8 @@ pub fn transpose(source: &[u8], n1: usize, n2: usize, target: &mut [u8])
     requires target_len { length target.old ≡ sheet_bytes n2 n1 }
     ensures { target.new ≡ bytes_of n2 n1 (exchanged (cell_of n2 source.now)) }
 {
-    let mut j = 0;
-    while j < n2 {
+    for j in 0..n2 {
         transpose_row(source, n1, n2, j, target);
-        j += 1;
     }
 }
 

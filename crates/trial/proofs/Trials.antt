@@ -3,7 +3,6 @@
 --   box-sum          the sum of a pattern's cells, over any weight, from the weights of its rectangle's cells
 --   gathered-tried   pattern by pattern, the entries that are gathered tell whether its cells have the two sums
 --   Vain, before     none of the first trials has the two sums; how many there are before those of a rectangle
---   trial-starts     before the first rectangle nothing was tried
 --   trial-misses     a rectangle without such a pattern: all trials up to the next were in vain
 --   trial-turns      after the last rectangle of a row comes the first of the next
 --   trial-finds      a rectangle with one: it is the first burst
@@ -14,7 +13,6 @@ use mathlib.Core.Path.{◌≡◌, refl, sym, ap, ap₂, ◌∙◌}
 use mathlib.Core.Bool.{Bool, true, false, ◌&&◌}
 use mathlib.Core.List.{List}
 use Prim.Native.Nat.{ℕ, ◌+◌, ◌-◌, ◌*◌, ◌/◌, ◌%◌, ◌≤◌, ◌<◌}
-use native.Mathlib.Nat.{zero-mul}
 use native.Mathlib.Omega.{arith}
 use lib.Dec.{eqb, ltb}
 use lib.Arith.{digits_lt, digits_div, digits_mod}
@@ -36,8 +34,8 @@ use Rattle.plan.specs.declared.table.Table.TheVariants.{Rows, Columns}
 use Rattle.plan.specs.Table.{word_at}
 use Rattle.mend.proofs.Turns.{times-next}
 use Rattle.mend.proofs.First.{first-nothing}
-use Rattle.mend.specs.declared.found.Found.TheVariants.{Burst, Nothing}
-use Rattle.mend.specs.Found.{first_burst}
+use Rattle.std.specs.Prelude.{Some, None}
+use Rattle.mend.specs.Found.{burst_at, first_burst}
 use Rattle.trial.specs.Trial.{weight_by, Gathered, pattern_sum, has_sums, fits_few, tried_at}
 use Rattle.mend.proofs.Rectangle.{box-cell-count}
 
@@ -123,9 +121,6 @@ gathered-tried c top left rows columns small p q gp gq v s x =
 
 -- ---- trials, rectangle by rectangle
 
-none_before : (b p : ℕ) → (0 * b + 0) * p ≡ 0
-none_before b p = ap (λ (n : ℕ). n * p) (let e : 0 * b + 0 ≡ 0 = omega (arith, zero-mul b) in e) ∙ zero-mul p
-
 one_further : (a b p : ℕ) → (a + (b + 1)) * p ≡ (a + b) * p + p
 one_further a b p = ap (λ (n : ℕ). n * p) (let e : a + (b + 1) ≡ a + b + 1 = omega arith in e) ∙ times-next (a + b) p
 
@@ -160,9 +155,6 @@ module _ (c : Code) (v s : ℕ) where
           let q : t ≡ before top left + y = omega arith in
           ap (tried c v s) q ∙ tried-at top left y ll (omega arith) ∙ none y ly
 
-  pub trial-starts : Vain (before 0 0)
-  trial-starts t l = absurd (let z : (0 * lefts c + 0) * patterns c ≡ 0 = none_before (lefts c) (patterns c) in omega arith)
-
   pub trial-misses : (top left : ℕ) → left < lefts c → Vain (before top left) → patterns c ≤ least (patterns c) (tried_at c v s top left)
       → Vain (before top (left + 1))
   trial-misses top left ll vain most t lt =
@@ -172,12 +164,12 @@ module _ (c : Code) (v s : ℕ) where
   pub trial-turns : (top : ℕ) → Vain (before top (lefts c)) → Vain (before (top + 1) 0)
   trial-turns top vain t lt = vain t (rw (row-further top (lefts c)) at lt)
 
-  first-at : (t : ℕ) → t < trials c → first_trial c v s ≡ t → Burst (trial_top c t) (trial_left c t) (trial_pattern c t) ≡ first_burst c v s
+  first-at : (t : ℕ) → t < trials c → first_trial c v s ≡ t → Some (burst_at (trial_top c t) (trial_left c t) (trial_pattern c t)) ≡ first_burst c v s
   unfolding first_burst has_burst
   first-at t l e = rw (e, lt-ltb t (trials c) l)
 
   pub trial-finds : (top left x : ℕ) → top < c.n1 - c.b1 + 1 → left < lefts c → Vain (before top left)
-      → x ≡ least (patterns c) (tried_at c v s top left) → x < patterns c → Burst top left x ≡ first_burst c v s
+      → x ≡ least (patterns c) (tried_at c v s top left) → x < patterns c → Some (burst_at top left x) ≡ first_burst c v s
   trial-finds top left x lt ll vain e lx =
       let p = tried_at c v s top left in
       let t = before top left + x in
@@ -188,7 +180,7 @@ module _ (c : Code) (v s : ℕ) where
       let m : t % patterns c ≡ x = digits_mod (top * lefts c + left) lx in
       rw (q, m, digits_div top ll, digits_mod top ll) at (first-at t below (least-is (trials c) (tried c v s) t below has none))
 
-  pub trial-ends : Vain (before (c.n1 - c.b1 + 1) 0) → Nothing ≡ first_burst c v s
+  pub trial-ends : Vain (before (c.n1 - c.b1 + 1) 0) → None ≡ first_burst c v s
   trial-ends vain = sym (first-nothing c v s none)
     where
       all : Vain (trials c)

@@ -9,13 +9,6 @@ ghost use Rattle.trial.specs.Trial.{pattern_sum, has_sums, fits_few};
 use mend::report::count_digits;
 use sparse::few::few;
 
-// The same number in 64 bits.
-fn wide(x: u32) -> u64
-    ensures { result ≡ x }
-{
-    x as u64
-}
-
 // The entry of cell k, where pattern number x has that cell, else 0.
 fn picked(x: u32, k: usize, entry: u32) -> u32
     requires { k < 16 }
@@ -29,11 +22,10 @@ fn sum_of(entries: &[u32], x: u32) -> u32
     requires { length entries.now ≡ 16 }
     ensures { result ≡ pattern_sum (word_at entries.now) x }
 {
+    // Sixteen turns, which the compiler knows, and not as many as the slice is long: it lays them side by side.
     let mut sum = 0;
-    let mut k = 0;
-    while k < 16 {
+    for k in 0..16 {
         sum ^= picked(x, k, entries[k]);
-        k += 1;
     }
     sum
 }
@@ -44,10 +36,10 @@ fn has_sums(rows: &[u32], columns: &[u32], x: u32, v: u64, s: u64) -> bool
     requires columns_len { length columns.now ≡ 16 }
     ensures { result ≡ has_sums (word_at rows.now) (word_at columns.now) v s x }
 {
-    if wide(sum_of(rows, x)) != v {
+    if u64::from(sum_of(rows, x)) != v {
         return false;
     }
-    wide(sum_of(columns, x)) == s
+    u64::from(sum_of(columns, x)) == s
 }
 
 // Pattern number x of n cells has few of them: at most t, or where t is 0 any number.
@@ -68,7 +60,7 @@ fn fits(rows: &[u32], columns: &[u32], n: usize, t: usize, x: u32, v: u64, s: u6
     if !has_sums(rows, columns, x, v, s) {
         return false;
     }
-    has_few(wide(x), n, t)
+    has_few(u64::from(x), n, t)
 }
 
 // The first pattern of n cells that fits, from the empty one on, or the number of patterns where none does.
@@ -79,12 +71,10 @@ pub fn first_pattern(rows: &[u32], columns: &[u32], n: usize, t: usize, v: u64, 
     ensures { result ≡ least (2 ^ n) (fits_few t n (word_at rows.now) (word_at columns.now) v s) }
 {
     let count = 1u32 << n;
-    let mut x = 0;
-    while x < count {
+    for x in 0..count {
         if fits(rows, columns, n, t, x, v, s) {
-            return wide(x);
+            return u64::from(x);
         }
-        x += 1;
     }
-    wide(x)
+    u64::from(count)
 }

@@ -2,8 +2,7 @@
 --
 --   joint-value              the joint sum of a sheet, from its two sums
 --   few-joints, free-joints  the joint entries of the check cells are at most 64, and independent
---   combination-makes        the solution for the joint entries of the check cells makes the target
---   never-outside            under an accepted plan there is one
+--   combination-makes        under an accepted plan there is a solution for the joint entries of the check cells, and it makes the target
 --
 -- Assumes nothing.
 use mathlib.Core.Path.{◌≡◌, sym, ap, ap₂, ◌∙◌}
@@ -16,7 +15,7 @@ use Rattle.finite.specs.Search.{bit}
 use Rattle.gf2.specs.Sum.{chosen_sum}
 use Rattle.gf2.specs.Vectors.{spans, free_from}
 use Rattle.gf2.specs.Solver.{combination, solution}
-use Rattle.gf2.specs.declared.Solution.TheVariants.{Combination, Outside}
+use Rattle.std.specs.Prelude.{Option, Some, unwrap_or}
 use Rattle.gf2.proofs.Spans.{spans-turned}
 use Rattle.gf2.proofs.Vectors.{free-listed, spanned-listed, listed-length}
 use Rattle.gf2.proofs.Independence.{independent-free}
@@ -67,21 +66,10 @@ module _ (c : Code) (F : Formed c) (K : Conditions c) where
     unfolding joints_of
     digits_sum y = combination-listed (c.rv + c.rh) (check_joint c) y
 
-    found : (y : ℕ) × (solution (joints_of c) target ≡ Combination y) × (chosen_sum (c.rv + c.rh) (bit y) (check_joint c) ≡ target)
+    found : (y : ℕ) × (solution (joints_of c) target ≡ Some y) × (chosen_sum (c.rv + c.rh) (bit y) (check_joint c) ≡ target)
     found =
         let w = solution-found (joints_of c) few-joints (joints-below c F) free-joints target word spans-joints in
         (w.0, w.1, sym (digits_sum w.0) ∙ w.3)
 
-    pub combination-makes : (y : ℕ) → solution (joints_of c) target ≡ Combination y → chosen_sum (c.rv + c.rh) (bit y) (check_joint c) ≡ target
-    combination-makes y e =
-        let w = found in
-        let p = w.1 in
-        let q : y ≡ w.0 = cc in
-        rw q w.2
-
-    pub never-outside : solution (joints_of c) target ≡ Outside → ⊥
-    never-outside e =
-        let w = found in
-        let p = w.1 in
-        let z : ◌≡◌ {A = ℕ} 0 1 = cc in
-        omega arith
+    pub combination-makes : (r : Option ℕ) → r ≡ solution (joints_of c) target → chosen_sum (c.rv + c.rh) (bit (unwrap_or r 0)) (check_joint c) ≡ target
+    combination-makes r e = let w = found in rw (e ∙ w.1) w.2

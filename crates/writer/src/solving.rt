@@ -5,41 +5,37 @@ ghost use Rattle.gf2.specs.Sum.{chosen_sum};
 ghost use Rattle.layout.specs.Stored.{size_in, cell_in};
 ghost use Rattle.boxcode.specs.Code.{Formed, check_joint};
 ghost use Rattle.boxcode.specs.Condition.{Conditions};
-ghost use Rattle.plan.specs.Header.{Framed};
-ghost use Rattle.plan.specs.Bytes.{code_with};
+ghost use Rattle.plan.specs.View.{code_in};
 ghost use Rattle.plan.specs.Table.{Unpacked};
 ghost use Rattle.writer.specs.Steps.{JointSum};
 
 use accept::checks::{check_joints, joined};
-use gf2::{Solution, find_combination};
+use gf2::find_combination;
 use layout::stored::Layout;
-use plan::header::Header;
+use plan::view::View;
 use syndrome::whole::sheet_sums;
 
 // The joint sum of a sheet: its V sum and its H sum, joined.
-pub fn joint_sum(lay: Layout, sheet: &[u8], plan: &[u8], h: Header, columns: &[u64]) -> u64
-    requires framed { Framed plan.now h }
-    requires formed { Formed (code_with plan.now h) }
-    requires unpacked { Unpacked plan.now h columns.now }
-    requires sheet_len { length sheet.now ≡ size_in lay h.n1 h.n2 }
-    ensures { JointSum (code_with plan.now h) (cell_in lay h.n1 h.n2 sheet.now) result }
+pub fn joint_sum<'a>(lay: Layout, sheet: &[u8], view: View<'a>, columns: &[u64]) -> u64
+    requires formed { Formed (code_in view) }
+    requires unpacked { Unpacked view.plan.now view.header columns.now }
+    requires sheet_len { length sheet.now ≡ size_in lay view.header.n1 view.header.n2 }
+    ensures { JointSum (code_in view.entry) (cell_in lay view.entry.header.n1 view.entry.header.n2 sheet.now) result }
 {
-    let s = sheet_sums(lay, sheet, plan, h, columns);
+    let h = view.header;
+    let s = sheet_sums(lay, sheet, view, columns);
     joined(h.rv, s.row, s.column)
 }
 
 // The check cells, as digits of a number, whose joint entries sum to the target. Under an accepted plan there are always some.
-pub fn check_digits(plan: &[u8], h: Header, target: u64) -> u64
-    requires framed { Framed plan.now h }
-    requires formed { Formed (code_with plan.now h) }
-    requires conditions { Conditions (code_with plan.now h) }
-    requires target_bound { target < 2 ^ (h.rv + h.rh) }
-    ensures { chosen_sum (h.rv + h.rh) (bit result) (check_joint (code_with plan.now h)) ≡ target }
+pub fn check_digits<'a>(view: View<'a>, target: u64) -> u64
+    requires formed { Formed (code_in view) }
+    requires conditions { Conditions (code_in view) }
+    requires target_bound { target < 2 ^ (view.header.rv + view.header.rh) }
+    ensures { chosen_sum (view.entry.header.rv + view.entry.header.rh) (bit result) (check_joint (code_in view.entry)) ≡ target }
 {
-    let joints = check_joints(plan, h);
+    let h = view.header;
+    let joints = check_joints(view);
     let count = h.rv + h.rh;
-    let Solution::Combination(y) = find_combination(&joints[..count], target) else {
-        return 0;
-    };
-    y
+    find_combination(&joints[..count], target).unwrap_or(0)
 }

@@ -6,6 +6,7 @@ use Rattle.gf2.proofs.find_combination.Goals as goal
 
 pub returns : goal.returns
 returns c =
-    let fits = c.shared_slice_known-1.given in
+    let p = c.requires in
     c.solve.ensures
-    ∙ rw c.solver_of-solver.ensures (solver-solves _ c.requires.members_len_bound (λ k _. (fits k).fits) c.requires.members_value c.args.target (omega arith))
+    ∙ rw c.solver_of-solver.ensures
+    (solver-solves _ p.members_len_bound (λ k _. (c.type_inv.members k).fits) p.members_value c.args.target (omega arith))

@@ -7,7 +7,10 @@ use Rattle.gf2.specs.Solver.{combined}
 use Rattle.gf2.proofs.reduce_combined.Given as goal
 
 abbrev pub invariant-loop-left : goal.invariant-loop-left
-invariant-loop-left l = (l.left ≤ l.v) × (reduced l.basis l.v ≡ reduced l.basis l.left) × (combined l.basis l.combos l.v l.y ≡ combined l.basis l.combos l.left l.combo)
+invariant-loop-left l =
+    (l.left ≤ l.v)
+    × (reduced l.basis l.v ≡ reduced l.basis l.left)
+    × (combined l.basis l.combos l.v l.y ≡ combined l.basis l.combos l.left l.combo)
 
 abbrev pub decreases-loop-left : goal.decreases-loop-left
 decreases-loop-left l = l.left

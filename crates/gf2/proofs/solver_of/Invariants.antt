@@ -1,13 +1,9 @@
 -- `gf2::solver_of` meets its contract. The loop's invariant: going on with the members from i on gives the solver.
 -- Assumes nothing.
-use Prim.Native.Nat.{◌≤◌, ◌-◌}
 use mathlib.Core.Path.{◌≡◌}
-use lib.ListN.{length, drop}
+use lib.ListN.{drop}
 use Rattle.gf2.specs.Solver.{solver_from, solver_of}
 use Rattle.gf2.proofs.solver_of.Given as goal
 
 abbrev pub invariant-loop-i : goal.invariant-loop-i
-invariant-loop-i l = (l.i ≤ length l.members) × (solver_of l.members ≡ solver_from (drop l.i l.members) l.basis l.combos l.i)
-
-abbrev pub decreases-loop-i : goal.decreases-loop-i
-decreases-loop-i l = length l.members - l.i
+invariant-loop-i l = solver_of l.members ≡ solver_from (drop l.i l.members) l.basis l.combos l.i

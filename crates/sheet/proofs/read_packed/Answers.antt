@@ -10,8 +10,11 @@ use Rattle.sheet.proofs.read_packed.Goals as goal
 pub pack_report-requires : goal.pack_report-requires
 pack_report-requires c =
     let s = c.args in
-    rw (ap (λ (o : Outcome). report_fields o.verdict o.report) c.read-a.ensures) (read-range s.lay s.plan.now s.sheet.now s.bits.now)
+    let e = rw (← c.tell-a.ensures) at c.read.ensures in
+    rw (ap (λ (o : Outcome). report_fields o.verdict o.report) e) (read-range s.lay s.plan.now s.sheet.now s.bits.now)
 
 pub returns : goal.returns
 unfolding read_call
-returns c = rw c.pack_report.ensures (ap (λ (o : Outcome). read_reply (packed (report_fields o.verdict o.report)) o.sheet o.bits) c.read-a.ensures)
+returns c =
+    let e = rw (← c.tell-a.ensures) at c.read.ensures in
+    rw c.pack_report.ensures (ap (λ (o : Outcome). read_reply (packed (report_fields o.verdict o.report)) o.sheet o.bits) e)

@@ -3,8 +3,8 @@ use native.Mathlib.Omega.{arith}
 use Rattle.sheet.proofs.Ranges.{made_range, made-packed}
 use Rattle.sheet.proofs.sheet_house_plan.Goals as goal
 
-pub pack_places-requires : goal.pack_places-requires
-pack_places-requires c = let f = made_range _ _ c.make_house-house.ensures in omega arith
+pub pack_told-requires : goal.pack_told-requires
+pack_told-requires c = made_range _ _ c.make_house.ensures
 
 pub returns : goal.returns
-returns c = rw c.pack_places.ensures (made-packed _ _ c.make_house-house.ensures)
+returns c = rw c.pack_told.ensures (made-packed _ _ c.make_house.ensures)

@@ -7,14 +7,13 @@ use Rattle.sheet.specs.Calls.{verdict_fields, read_stack_reply, read_stack_call}
 use Rattle.sheet.proofs.Ranges.{stack-range}
 use Rattle.sheet.proofs.sheet_read_stack.Goals as goal
 
-pub pack_places-requires : goal.pack_places-requires
-pack_places-requires c =
-    let s = c.read_stack-whole in
-    let f : InRange (verdict_fields s.result) = rw (ap (λ (o : StackRead). verdict_fields o.verdict) s.ensures) (stack-range _ _ _ _) in
-    omega arith
+pub pack_told-requires : goal.pack_told-requires
+pack_told-requires c =
+    let s = c.read_stack in
+    rw (ap (λ (o : StackRead). verdict_fields o.verdict) s.ensures) (stack-range _ _ _ _)
 
 pub returns : goal.returns
 unfolding read_stack_call
 returns c =
-    let s = c.read_stack-whole in
-    rw c.pack_places.ensures (ap (λ (o : StackRead). read_stack_reply (packed (verdict_fields o.verdict)) o.left) s.ensures)
+    let s = c.read_stack in
+    rw c.pack_told.ensures (ap (λ (o : StackRead). read_stack_reply (packed (verdict_fields o.verdict)) o.left) s.ensures)

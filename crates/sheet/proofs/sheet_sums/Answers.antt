@@ -7,14 +7,12 @@ use Rattle.sheet.specs.Calls.{verdict_fields, sums_reply, sums_call}
 use Rattle.sheet.proofs.Ranges.{sums-range}
 use Rattle.sheet.proofs.sheet_sums.Goals as goal
 
-pub pack_places-requires : goal.pack_places-requires
-pack_places-requires c =
+pub pack_told-requires : goal.pack_told-requires
+pack_told-requires c =
     let a = c.args in
-    let s = c.sum_run-summed in
-    let f : InRange (verdict_fields s.result) =
-    rw (ap (λ (o : Summed). verdict_fields o.verdict) s.ensures) (sums-range a.plan.now a.sheet.now a.first a.past a.sums.now) in
-    omega arith
+    let s = c.sum_run in
+    rw (ap (λ (o : Summed). verdict_fields o.verdict) s.ensures) (sums-range a.plan.now a.sheet.now a.first a.past a.sums.now)
 
 pub returns : goal.returns
 unfolding sums_call
-returns c = rw c.pack_places.ensures (ap (λ (o : Summed). sums_reply (packed (verdict_fields o.verdict)) o.sums) c.sum_run-summed.ensures)
+returns c = rw c.pack_told.ensures (ap (λ (o : Summed). sums_reply (packed (verdict_fields o.verdict)) o.sums) c.sum_run.ensures)

@@ -7,14 +7,12 @@ use Rattle.sheet.specs.Calls.{verdict_fields, write_reply, write_call}
 use Rattle.sheet.proofs.Ranges.{write-range}
 use Rattle.sheet.proofs.write_packed.Goals as goal
 
-pub pack_places-requires : goal.pack_places-requires
-pack_places-requires c =
+pub pack_told-requires : goal.pack_told-requires
+pack_told-requires c =
     let s = c.args in
-    let w = c.write-wrote in
-    let f : InRange (verdict_fields w.result) =
-    rw (ap (λ (o : Wrote). verdict_fields o.verdict) w.ensures) (write-range s.lay s.plan.now s.bits.now s.sheet.now) in
-    omega arith
+    let w = c.write in
+    rw (ap (λ (o : Wrote). verdict_fields o.verdict) w.ensures) (write-range s.lay s.plan.now s.bits.now s.sheet.now)
 
 pub returns : goal.returns
 unfolding write_call
-returns c = rw c.pack_places.ensures (ap (λ (o : Wrote). write_reply (packed (verdict_fields o.verdict)) o.sheet) c.write-wrote.ensures)
+returns c = rw c.pack_told.ensures (ap (λ (o : Wrote). write_reply (packed (verdict_fields o.verdict)) o.sheet) c.write.ensures)

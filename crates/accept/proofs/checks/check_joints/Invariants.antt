@@ -1,8 +1,6 @@
 -- `accept::checks::check_joints` meets its contract. The invariant: the first k words are the joint entries of the first k check cells.
 -- Assumes nothing.
-use mathlib.Core.Path.{◌≡◌}
-use Prim.Native.Nat.{◌-◌, ◌≤◌}
-use lib.ListN.{length, take}
+use Rattle.std.proofs.Common.{◌≡◌, length, take}
 use Rattle.gf2.specs.Vectors.{listed}
 use Rattle.boxcode.specs.Code.{check_joint}
 use Rattle.boxcode.specs.Condition.{everyone}
@@ -10,7 +8,4 @@ use Rattle.plan.specs.Bytes.{code_with}
 use Rattle.accept.proofs.checks.check_joints.Given as goal
 
 abbrev pub invariant-loop-k : goal.invariant-loop-k
-invariant-loop-k l = (l.k ≤ l.count) × (length l.joints ≡ 64) × (take l.k l.joints ≡ listed l.k everyone (check_joint (code_with l.plan l.h)))
-
-abbrev pub decreases-loop-k : goal.decreases-loop-k
-decreases-loop-k l = l.count - l.k
+invariant-loop-k l = (length l.joints ≡ 64) × (take l.k l.joints ≡ listed l.k everyone (check_joint (code_with l.view.plan.now l.view.header)))

@@ -24,13 +24,13 @@ pub keep-taken-requires : goal.keep-taken-requires
 keep-taken-requires c =
     let s = c.args in
     let j = c.check_joints-joints.ensures in
-    omega (arith, length-take (s.h.rv + s.h.rh) c.check_joints-joints.result, j.few)
+    omega (arith, length-take (s.view.header.rv + s.view.header.rh) c.check_joints-joints.result, j.few)
 
 pub returns : goal.returns
 unfolding checks_verdict
 returns c =
-    let code = code_with c.args.plan.now c.args.h in
+    let code = code_with c.args.view.plan.now c.args.view.header in
     let j = c.check_joints-joints.ensures in
     let t : c.keep-taken.result.taken ≡ least (code.rv + code.rh) (λ k. spanned k everyone (check_joint code) (check_joint code k)) =
-    c.keep-taken.ensures.count ∙ ap (taken_from []) j.held ∙ joints-taken code c.requires.formed in
+    c.keep-taken.ensures.count ∙ ap (taken_from []) j.held ∙ joints-taken code c.requires in
     rw (← t) c.refuse_if.ensures

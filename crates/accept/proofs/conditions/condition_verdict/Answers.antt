@@ -3,7 +3,7 @@ use mathlib.Core.Path.{◌∙◌}
 use Rattle.accept.proofs.Tables.{plan-condition}
 use Rattle.accept.proofs.conditions.condition_verdict.Goals as goal
 
-pub returns : goal.returns
-returns c =
-    let u = c.unpack.ensures in
-    (c.table_verdict.ensures ∙ plan-condition c.args.plan.now c.args.h c.requires.framed.small c.args.t _ u, u)
+pub returns-clause-told : goal.returns-clause-told
+returns-clause-told c =
+    let v = c.args.view in
+    c.table_verdict.ensures ∙ plan-condition v.plan.now v.header v.framed.small c.args.t _ c.unpack.ensures

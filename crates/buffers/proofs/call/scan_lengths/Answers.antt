@@ -1,28 +1,24 @@
--- `buffers::call::scan_lengths` meets its contract: the second scan's length is asked for only where checks 1 to 11 gave 0 for the first. Assumes nothing.
-use mathlib.Core.Path.{◌∙◌}
-use native.Mathlib.Omega.{arith}
-use Rattle.layout.specs.declared.stored.Layout.TheVariants.{ByRow}
+-- `buffers::call::scan_lengths` meets its contract: the second scan's length is asked for only where checks 1 to 11 passed for the first. Assumes nothing.
 use Rattle.plan.specs.Bytes.{code_of}
+use Rattle.plan.proofs.Framing.{same-header}
+use Rattle.plan.proofs.Sequence.{hands-on}
 use Rattle.buffers.specs.Buffers.{scan_lengths}
-use Rattle.buffers.proofs.Passing.{SheetFits, sheet-zero, checked-passes, checked-stops, checked-goes-on}
+use Rattle.buffers.proofs.Passing.{checked-stops, checked-goes-on}
 use Rattle.buffers.proofs.call.scan_lengths.Goals as goal
 
-pub returns-then-checked-ne0 : goal.returns-then-checked-ne0
+pub returns-in_err-accepted-clause-checked : goal.returns-in_err-accepted-clause-checked
 unfolding scan_lengths
-returns-then-checked-ne0 c = checked-stops _ _ c.sheet_checks-checked.ensures c.if-checked-ne0.true
+returns-in_err-accepted-clause-checked c = checked-stops _ _ _ c.from_residual.ensures.1 c.in_err-accepted.ensures.checked
 
-pub header_of-requires : goal.header_of-requires
-header_of-requires c =
-    let ready : let a = c.args in SheetFits ByRow a.plan.now a.first.now = sheet-zero ByRow _ _ (checked-passes c.sheet_checks-checked.ensures c.if-checked-ne0.false) in
-    let F = ready in omega (arith, F.accepted.framed.long)
-
-pub sheet_length-requires : goal.sheet_length-requires
-sheet_length-requires c =
-    let ready : let a = c.args in SheetFits ByRow a.plan.now a.first.now = sheet-zero ByRow _ _ (checked-passes c.sheet_checks-checked.ensures c.if-checked-ne0.false) in
-    rw c.header_of.ensures ready.accepted.framed.small
-
-pub returns : goal.returns
+pub returns-in_err-sheet_length-clause-checked : goal.returns-in_err-sheet_length-clause-checked
 unfolding code_of scan_lengths
-returns c =
-    checked-goes-on _ _ c.sheet_checks-checked.ensures c.if-checked-ne0.false
-    (c.sheet_length.ensures ∙ rw c.header_of.ensures)
+returns-in_err-sheet_length-clause-checked c =
+    let s = c.from_residual-in_err-sheet_length.ensures.1 in
+    let e = same-header c.in_ok-accepted.accepted.view.framed c.in_ok-accepted.ensures.view in
+    checked-goes-on c.in_ok-accepted.ensures.checked (hands-on _ _ s (rw e at c.in_err-sheet_length.ensures))
+
+pub returns-clause-checked : goal.returns-clause-checked
+unfolding code_of scan_lengths
+returns-clause-checked c =
+    let e = same-header c.in_ok-accepted.accepted.view.framed c.in_ok-accepted.ensures.view in
+    checked-goes-on c.in_ok-accepted.ensures.checked (rw e at c.in_ok-sheet_length.ensures)

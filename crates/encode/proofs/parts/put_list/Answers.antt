@@ -1,52 +1,17 @@
-use mathlib.Core.Path.{◌≡◌}
-use Prim.Native.Nat.{◌/◌, ◌%◌}
+use Prim.Native.Nat.{ℕ, ◌/◌, ◌%◌, ◌<◌}
 use native.Mathlib.Omega.{arith}
-use lib.ListN.{length}
+use lib.ListN.{length-take}
+use lib.Seq.{get_or-take}
 use Rattle.plan.specs.Table.{word_at}
-use Rattle.encode.proofs.Pieces.{length-kept, list-none, list-next}
+use Rattle.encode.proofs.Pieces.{list-none, list-next}
 use Rattle.encode.proofs.parts.put_list.Goals as goal
 
 pub loop-k-init : goal.loop-k-init
-loop-k-init c = (omega arith, list-none _ _ _ _)
-
-pub offset_bounds-cells-k : goal.offset_bounds-cells-k
-offset_bounds-cells-k c = omega arith
-
-pub bounds-cells-k : goal.bounds-cells-k
-bounds-cells-k c = omega arith
-
-pub overflow_mul-k : goal.overflow_mul-k
-overflow_mul-k c = omega arith
-
-pub overflow_add-at : goal.overflow_add-at
-overflow_add-at c = omega arith
-
-pub put_pair-requires : goal.put_pair-requires
-put_pair-requires c =
-    let l = c.loop-k in
-    let a = c.args in
-    let e : length l.plan ≡ length a.plan.now = length-kept _ _ _ _ l.invariant.1 in
-    omega arith
-
-pub overflow_add-k : goal.overflow_add-k
-overflow_add-k c = omega arith
-
-pub loop-k-smaller : goal.loop-k-smaller
-loop-k-smaller c = omega arith
+loop-k-init c = list-none _ _ _ _
 
 pub loop-k-preserved : goal.loop-k-preserved
 loop-k-preserved c =
     let a = c.args in
-    let cell = word_at a.cells.now in (
-      omega arith,
-      list-next (λ k. cell k / a.n2) (λ k. cell k % a.n2) _ _ _ _ _ c.loop-k.invariant.1 c.put_pair.ensures,
-    )
-
-pub shape_of-plan : goal.shape_of-plan
-shape_of-plan c = length-kept _ _ _ _ c.loop-k.invariant.1
-
-pub returns : goal.returns
-returns c =
-    let a = c.args in
-    let e : a.count ≡ c.loop-k.k = omega arith in
-    rw e c.loop-k.invariant.1
+    let cell = word_at a.cells.now in
+    let l : c.loop-k.k < a.count = omega (arith, length-take {A = ℕ}) in
+    list-next (λ k. cell k / a.n2) (λ k. cell k % a.n2) _ _ _ _ _ c.loop-k.invariant (simp get_or-take at c.put_pair.ensures)

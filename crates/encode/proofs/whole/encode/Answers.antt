@@ -13,7 +13,7 @@ put_table-requires-2 c =
     let p = c.requires in
     let e = placed h p.h_value in
     let l = length-kept _ _ _ _ c.put_table.ensures ∙ length-kept _ _ _ _ c.put_header.ensures ∙ p.plan_len in
-    record { count_in_bounds = omega (arith, p.small.column_positions, p.columns_len); count_in_bounds_2 = omega arith }
+    record { count_in_bounds = omega (arith, p.small.column_positions); count_in_bounds_2 = omega arith }
 
 pub overflow_add-h : goal.overflow_add-h
 overflow_add-h c =
@@ -30,7 +30,7 @@ put_list-requires c =
     ∙ length-kept _ _ _ _ c.put_table.ensures
     ∙ length-kept _ _ _ _ c.put_header.ensures
     ∙ p.plan_len in
-    record { n2_nonzero = omega (arith, p.small.b2_pos, p.small.n2_least); count_in_bounds = omega (arith, p.small.rv_most, p.small.rh_most, p.cells_len); count_in_bounds_2 = omega arith }
+    record { n2_nonzero = omega (arith, p.small.b2_pos, p.small.n2_least); count_in_bounds = omega (arith, p.small.rv_most, p.small.rh_most); count_in_bounds_2 = omega arith }
 
 pub returns : goal.returns
 returns c =

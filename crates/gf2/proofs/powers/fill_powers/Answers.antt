@@ -18,48 +18,29 @@ next : (p x k : ℕ) → x ≡ power p k → times_z p x ≡ power p (k + 1)
 unfolding power
 next p x k e = rw (add-one k, e)
 
-pub overflow_shl-p : goal.overflow_shl-p
-overflow_shl-p c = omega arith
-
 pub overflow_add-p : goal.overflow_add-p
 overflow_add-p c =
     let d = c.args.degree in
     rw (bit_is d (omega arith)) (omega (arith, pow_mono {i = d} {j = 32} c.requires.le_degree.1))
 
-pub loop-k-init : goal.loop-k-init
-loop-k-init c = (omega arith, powers-none _ _, unfold power in refl)
-
-pub bounds-words-k : goal.bounds-words-k
-bounds-words-k c = omega (arith, c.loop-k.invariant.1.size)
+pub loop-word-init : goal.loop-word-init
+loop-word-init c = (powers-none _ _, unfold power in refl)
 
 pub times_z-x-requires : goal.times_z-x-requires
 times_z-x-requires c =
     let a = c.args in
     let p = c.requires.le_degree in
-    rw c.loop-k.invariant.2
+    rw c.loop-word.invariant.1
     (omega (
       arith,
-      power_below a.degree (polynomial a.degree a.low) p.0 (polynomial-degree a.degree a.low p.2) c.loop-k.k,
+      power_below a.degree (polynomial a.degree a.low) p.0 (polynomial-degree a.degree a.low p.2) c.loop-word.word-index,
       pow_mono {i = a.degree} {j = 32} p.1,
     ))
 
-pub overflow_add-k : goal.overflow_add-k
-overflow_add-k c = omega arith
-
-pub loop-k-smaller : goal.loop-k-smaller
-loop-k-smaller c = omega arith
-
-pub loop-k-preserved : goal.loop-k-preserved
-loop-k-preserved c =
-    let l = c.loop-k in
+pub loop-word-preserved : goal.loop-word-preserved
+loop-word-preserved c =
+    let l = c.loop-word in
     let d = c.args.degree in (
-      omega arith,
-      powers-stored _ _ _ _ _ (omega (arith, l.invariant.1.size)) l.invariant.1 l.invariant.2,
-      c.times_z-x.ensures ∙ ap (λ (p : ℕ). times_z p l.x) (made d _ (omega arith)) ∙ next _ _ l.k l.invariant.2,
+      powers-stored _ _ _ _ _ (omega (arith, l.invariant.0.size)) l.invariant.0 l.invariant.1,
+      c.times_z-x.ensures ∙ ap (λ (p : ℕ). times_z p l.x) (made d _ (omega arith)) ∙ next _ _ l.word-index l.invariant.1,
     )
-
-pub shape_of-words : goal.shape_of-words
-shape_of-words c = c.loop-k.invariant.1.size
-
-pub returns : goal.returns
-returns c = let i = c.loop-k.invariant.1 in record { size = i.size; value = λ j l. i.value j (omega arith) }

@@ -5,4 +5,4 @@ use Rattle.gf2.proofs.powers.times_z.Goals as goal
 
 pub returns : goal.returns
 unfolding times_z ◌⊕◌
-returns c = c.lesser.ensures
+returns c = c.min.ensures

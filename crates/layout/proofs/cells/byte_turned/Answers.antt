@@ -21,4 +21,4 @@ returns-then-byte_of-k c =
 pub returns : goal.returns
 returns c =
     let a = c.args in
-    bit-turned a.x a.j a.asked ∙ own a.asked _ _ _ _ _ (sym c.byte_of.ensures ∙ c.if-byte_of-k.false)
+    rw c.from.ensures (bit-turned a.x a.j a.asked) ∙ own a.asked _ _ _ _ _ (sym c.byte_of.ensures ∙ c.if-byte_of-k.false)

@@ -21,5 +21,5 @@ pub returns : goal.returns
 returns c =
     let a = c.args in
     let k = byte_of a.n2 a.i a.j in
-    rw c.byte_of-k.ensures
+    rw (c.byte_of-k.ensures, c.from.ensures)
     (ap (set a.s.now k) (bit-turned (get_or a.s.now k 0) a.j a.asked) ∙ either a.n2 a.s.now a.i a.j a.asked)

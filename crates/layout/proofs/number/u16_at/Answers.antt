@@ -1,5 +1,5 @@
--- `layout::number::u16_at` meets its contract: two bytes are below 256 each. Assumes nothing.
-use native.Mathlib.Omega.{arith}
+-- `layout::number::u16_at` meets its contract: std's number of two bytes is the one of specs/. Assumes nothing.
+use Rattle.std.proofs.Common.{arith}
 use Rattle.layout.specs.Number.{u16_at}
 use Rattle.layout.proofs.number.u16_at.Goals as goal
 

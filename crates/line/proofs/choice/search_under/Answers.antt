@@ -5,8 +5,8 @@ use Prim.Native.Nat.{◌*◌}
 use native.Mathlib.Nat.{mul-le-mul}
 use native.Mathlib.Omega.{arith}
 use Rattle.plan.specs.declared.header.Header.{Header}
-use Rattle.plan.specs.declared.verdict.Verdict.{Verdict}
 use Rattle.plan.specs.Bytes.{code_of}
+use Rattle.plan.proofs.Sequence.{passed, turned-back}
 use Rattle.accept.proofs.Acceptance.{accepted-plan}
 use Rattle.line.proofs.Chosen.{chosen-trial, chosen-refused, chosen-large, chosen-tall, chosen-wide}
 use Rattle.line.proofs.choice.search_under.Goals as goal
@@ -32,17 +32,14 @@ returns-then-h-gt-SMALL-3 c =
     let e = ap (λ (h : Header). h.n1 * h.n2) c.header_of-h.ensures in
     chosen-large _ (omega arith)
 
-pub returns-then-tested-ne0 : goal.returns-then-tested-ne0
-returns-then-tested-ne0 c =
-    let n = ap (λ (v : Verdict). v.number) c.test-tested.ensures.verdict in
-    chosen-refused _ (λ z. omega (arith, c.if-tested-ne0.true))
-
-pub returns : goal.returns
+pub returns-in-Ok : goal.returns-in-Ok
 unfolding code_of
-returns c =
-    let n = ap (λ (v : Verdict). v.number) c.test-tested.ensures.verdict in
+returns-in-Ok c =
     let e = ap (λ (h : Header). h.n1 * h.n2) c.header_of-h.ensures in
-    chosen-trial _ (omega arith) (omega arith)
+    chosen-trial _ (passed c.in-Ok.ensures.checked.verdict) (omega arith)
+
+pub returns-in-Err : goal.returns-in-Err
+returns-in-Err c = chosen-refused _ (turned-back _ c.in-Err.ensures.checked.verdict)
 
 pub overflow_mul-h : goal.overflow_mul-h
 overflow_mul-h c =

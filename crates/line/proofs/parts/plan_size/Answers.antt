@@ -9,4 +9,4 @@ returns-then-input-lt-LENGTH c = omega arith
 
 pub returns : goal.returns
 unfolding plan_size
-returns c = rw (c.smaller.ensures, c.larger.ensures, c.u16_at.ensures.value)
+returns c = omega (arith, c.u16_at.ensures.value)

@@ -1,25 +1,15 @@
--- `maker::making::tables_verdict` meets its contract: check 9 is asked for only where check 8 gave 0. Assumes nothing.
-use mathlib.Core.Path.{refl, sym, ◌∙◌}
-use borrow.Author.Rules.{rules}
-use Rattle.plan.proofs.Sequence.{else-first, else-second, same-zero, same-other}
+-- `maker::making::tables_verdict` meets its contract: check 9 is asked for only where check 8 passed. Assumes nothing.
+use Rattle.plan.proofs.Sequence.{stops, goes-on}
 use Rattle.maker.proofs.making.tables_verdict.Goals as goal
 
-pub table_verdict-first-requires : goal.table_verdict-first-requires
-table_verdict-first-requires c =
-    let p = c.requires in
-    record { small = p.small; words_len = (p.tables.rows_size, refl); entries32 = p.tables.rows_below }
-
-pub returns-then-first-ne0 : goal.returns-then-first-ne0
-returns-then-first-ne0 c =
-    let e = c.table_verdict-first.ensures in
-    e ∙ sym (else-first _ _ (same-other e c.if-first-ne0.true))
-
 pub table_verdict-requires : goal.table_verdict-requires
-table_verdict-requires c =
-    let p = c.requires in
-    record { small = p.small; words_len = (p.tables.columns_size, search rules); entries32 = p.tables.columns_below }
+table_verdict-requires c = record { small = c.requires.small; entries32 = c.requires.tables.rows_below }
+
+pub returns-in_err-table_verdict : goal.returns-in_err-table_verdict
+returns-in_err-table_verdict c = stops _ _ _ c.from_residual.ensures.1 c.in_err-table_verdict.ensures
+
+pub table_verdict-requires-2 : goal.table_verdict-requires-2
+table_verdict-requires-2 c = record { small = c.requires.small; entries32 = c.requires.tables.columns_below }
 
 pub returns : goal.returns
-returns c =
-    let e = c.table_verdict-first.ensures in
-    c.table_verdict.ensures ∙ sym (else-second _ _ (same-zero e c.if-first-ne0.false))
+returns c = goes-on c.in_ok-table_verdict.ensures c.table_verdict-2.ensures

@@ -2,39 +2,26 @@
 use native.Mathlib.Omega.{arith}
 use lib.ListN.{length}
 use Rattle.plan.specs.Table.{word_at}
-use Rattle.mend.proofs.FewFits.{shifted, none-fits, one-fits, nothing-fits, single-found, single-missed, pair-few}
+use Rattle.mend.proofs.FewFits.{shifted, none-fits, one-fits, nothing-fits, pair-few}
 use Rattle.mend.proofs.few.few_fit.Goals as goal
 
 pub returns-then-v-eq0 : goal.returns-then-v-eq0
-returns-then-v-eq0 c =
-    let f = word_at c.args.words.now in
-    let n = length c.args.words.now in
-    let v = c.args.v in
-    rw c.if-v-eq0.true (none-fits c.args.t c.requires.1 f n)
+returns-then-v-eq0 c = rw c.if-v-eq0.true (none-fits c.args.t c.requires.1 (word_at c.args.words.now) (length c.args.words.now))
 
-pub returns-then-k-words : goal.returns-then-k-words
-returns-then-k-words c =
-    let f = word_at c.args.words.now in
-    let n = length c.args.words.now in
-    let v = c.args.v in
-    let k = c.first_equal-k.result in
-    rw (shifted k (omega (arith, c.requires.0, c.if-k-words.true)))
-    (one-fits c.args.t c.requires.1 f n k v c.if-k-words.true (single-found f n v k c.first_equal-k.ensures c.if-k-words.true))
+pub returns-in-Some : goal.returns-in-Some
+returns-in-Some c =
+    let words = c.args.words.now in
+    let k = c.in-Some.k in
+    let e = c.in-Some.ensures in
+    rw (shifted k (omega (arith, e.0, c.requires.0))) (one-fits c.args.t c.requires.1 (word_at words) (length words) k c.args.v e.0 e.1)
 
 pub returns-then-t-ne2 : goal.returns-then-t-ne2
 returns-then-t-ne2 c =
-    let f = word_at c.args.words.now in
-    let n = length c.args.words.now in
-    let v = c.args.v in
-    let k = c.first_equal-k.result in
-    nothing-fits c.args.t c.requires.1 f n c.requires.2 v c.if-v-eq0.false
-    (single-missed f n v k c.first_equal-k.ensures c.if-k-words.false) (λ e. absurd (c.if-t-ne2.true e))
+    let words = c.args.words.now in
+    nothing-fits c.args.t c.requires.1 (word_at words) (length words) c.requires.2 c.args.v c.if-v-eq0.false c.in_default.ensures
+    (λ e. absurd (c.if-t-ne2.true e))
 
 pub returns : goal.returns
 returns c =
-    let f = word_at c.args.words.now in
-    let n = length c.args.words.now in
-    let v = c.args.v in
-    let k = c.first_equal-k.result in
-    pair-few c.args.t f n v c.if-t-ne2.false c.if-v-eq0.false
-    (single-missed f n v k c.first_equal-k.ensures c.if-k-words.false) c.pair_fit.result c.pair_fit.ensures
+    let words = c.args.words.now in
+    pair-few c.args.t (word_at words) (length words) c.args.v c.if-t-ne2.false c.if-v-eq0.false c.in_default.ensures c.pair_fit.result c.pair_fit.ensures

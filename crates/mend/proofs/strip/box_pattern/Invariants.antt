@@ -1,12 +1,9 @@
 -- `mend::strip::box_pattern` meets its contract. The invariant: y has the digits from k on. Assumes nothing.
 use mathlib.Core.Path.{◌≡◌}
-use Prim.Native.Nat.{◌*◌, ◌≤◌}
+use Prim.Native.Nat.{◌*◌}
 use Rattle.mend.specs.Strip.{laid_digit}
 use Rattle.mend.proofs.Turns.{digits_from}
 use Rattle.mend.proofs.strip.box_pattern.Given as goal
 
 abbrev pub invariant-loop-k : goal.invariant-loop-k
-invariant-loop-k l = (l.k ≤ l.b1 * l.b2) × (l.y ≡ digits_from (l.b1 * l.b2) l.k (laid_digit l.b2 l.a l.x))
-
-abbrev pub decreases-loop-k : goal.decreases-loop-k
-decreases-loop-k l = l.k
+invariant-loop-k l = l.y ≡ digits_from (l.b1 * l.b2) l.k (laid_digit l.b2 l.a l.x)

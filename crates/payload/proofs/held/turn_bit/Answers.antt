@@ -11,15 +11,15 @@ use Rattle.payload.proofs.CellBit.{held-check, held-room, held_below, held-bit}
 use Rattle.payload.proofs.held.turn_bit.Goals as goal
 
 pub overflow_mul-first : goal.overflow_mul-first
-overflow_mul-first c = let m = c.requires.framed.small in omega (arith, pair-most _ m c.args.i (omega arith))
+overflow_mul-first c = let m = c.args.view.framed.small in omega (arith, pair-most _ m c.args.i (omega arith))
 
 pub overflow_add-t : goal.overflow_add-t
-overflow_add-t c = let m = c.requires.framed.small in omega (arith, pair-most _ m c.args.i (omega arith))
+overflow_add-t c = let m = c.args.view.framed.small in omega (arith, pair-most _ m c.args.i (omega arith))
 
 pub next_check-requires : goal.next_check-requires
 next_check-requires c =
     let p = c.requires in
-    record { framed = p.framed; q_bound = rw c.checks_before-check.ensures (passed _ p.formed _).most }
+    record { q_bound = rw c.checks_before-check.ensures (passed _ p.formed _).most }
 
 pub returns-then-next_check-t : goal.returns-then-next_check-t
 unfolding cell_number
@@ -31,7 +31,7 @@ returns-then-next_check-t c =
 pub row_ends-ends-requires : goal.row_ends-ends-requires
 row_ends-ends-requires c =
     let p = c.requires in
-    record { framed = p.framed; formed = p.formed; row_le_n1 = omega (arith, p.i_lt_n1.0); check_value = c.checks_before.ensures }
+    record { formed = p.formed; row_le_n1 = omega (arith, p.i_lt_n1.0); check_value = c.checks_before.ensures }
 
 pub overflow_sub-t : goal.overflow_sub-t
 overflow_sub-t c = checks-most _ _ _ c.checks_before-check.ensures
@@ -46,7 +46,7 @@ bit-d-requires c =
 
 pub overflow_mul-h : goal.overflow_mul-h
 overflow_mul-h c =
-    let s = c.requires.framed.small in
+    let s = c.args.view.framed.small in
     omega (arith, sheet-cells s.n1_most s.n2_most)
 
 pub overflow_sub-h : goal.overflow_sub-h
@@ -56,7 +56,7 @@ pub turn-requires : goal.turn-requires
 unfolding cell_number data_size
 turn-requires c =
     let p = c.requires in
-    let s = p.framed.small in
+    let s = c.args.view.framed.small in
     let l = held_below _ p.formed _ _ p.i_lt_n1.0 p.i_lt_n1.1 _ _ c.checks_before-check.ensures c.next_check.ensures
     c.if-next_check-t.false in
     (omega (arith, sheet-cells s.n1_most s.n2_most), place_inside _ _ _ p.bits_len (rw (c.bit-d.ensures, c.row_ends-ends.ensures) l))

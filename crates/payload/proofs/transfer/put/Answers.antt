@@ -12,7 +12,7 @@ use Rattle.payload.proofs.transfer.put.Invariants.{data_in, cells_to}
 use Rattle.payload.proofs.transfer.put.Goals as goal
 
 pub overflow_mul-k : goal.overflow_mul-k
-overflow_mul-k c = let s = c.requires.framed.small in omega (arith, sheet-cells s.n1_most s.n2_most)
+overflow_mul-k c = let s = c.args.view.framed.small in omega (arith, sheet-cells s.n1_most s.n2_most)
 
 pub overflow_add-k : goal.overflow_add-k
 overflow_add-k c = omega arith
@@ -24,7 +24,7 @@ pub clear-requires : goal.clear-requires
 clear-requires c = tt
 
 pub start-at-requires : goal.start-at-requires
-start-at-requires c = let pre = c.requires in record { framed = pre.framed; formed = pre.formed }
+start-at-requires c = let pre = c.requires in record { formed = pre.formed }
 
 pub loop-at-init : goal.loop-at-init
 unfolding data_size
@@ -34,7 +34,7 @@ loop-at-init c =
       refl,
       c.start-at.ensures.at,
       c.clear.ensures
-          ∙ rw (c.requires.sheet_len, c.start-at.ensures.first) (put_first a.lay (code_with a.plan.now a.h) _),
+          ∙ rw (c.requires.sheet_len, c.start-at.ensures.first) (put_first a.lay (code_with a.view.plan.now a.view.header) _),
     )
 
 pub run-len-requires : goal.run-len-requires
@@ -49,13 +49,13 @@ put_run-requires c =
     let pre = c.requires in
     let l = c.loop-at in
     let v = l.invariant in
-    let s = ap length v.3 ∙ bytes-size a.lay a.h.n1 a.h.n2 (cells_to a.plan.now a.h a.bits.now l.at.cell) in
-    reaches a.lay (code_with a.plan.now a.h) pre.formed _ v.2 (omega arith) _ _ _ _ _ v.0 pre.bits_len refl s c.run-len.ensures
+    let s = ap length v.3 ∙ bytes-size a.lay a.view.header.n1 a.view.header.n2 (cells_to a.view.plan.now a.view.header a.bits.now l.at.cell) in
+    reaches a.lay (code_with a.view.plan.now a.view.header) pre.formed _ v.2 (omega arith) _ _ _ _ _ v.0 pre.bits_len refl s c.run-len.ensures
 
 pub step-at-requires : goal.step-at-requires
 step-at-requires c =
     let pre = c.requires in
-    record { framed = pre.framed; formed = pre.formed; at = c.loop-at.invariant.2; row_lt_n1 = omega arith; len_value = c.run-len.ensures }
+    record { formed = pre.formed; at = c.loop-at.invariant.2; row_lt_n1 = omega arith; len_value = c.run-len.ensures }
 
 pub loop-at-smaller : goal.loop-at-smaller
 loop-at-smaller c =
@@ -79,10 +79,10 @@ pub shape_of-sheet : goal.shape_of-sheet
 shape_of-sheet c =
     let a = c.args in
     let l = c.loop-at in
-    ap length l.invariant.3 ∙ bytes-size a.lay a.h.n1 a.h.n2 (cells_to a.plan.now a.h a.bits.now l.at.cell) ∙ sym c.requires.sheet_len
+    ap length l.invariant.3 ∙ bytes-size a.lay a.view.header.n1 a.view.header.n2 (cells_to a.view.plan.now a.view.header a.bits.now l.at.cell) ∙ sym c.requires.sheet_len
 
 pub returns : goal.returns
 returns c =
     let a = c.args in
     let v = c.loop-at.invariant in
-    v.3 ∙ put_all a.lay (code_with a.plan.now a.h) (data_in a.plan.now a.h a.bits.now) _ (past_end _ _ v.2 (omega arith))
+    v.3 ∙ put_all a.lay (code_with a.view.plan.now a.view.header) (data_in a.view.plan.now a.view.header a.bits.now) _ (past_end _ _ v.2 (omega arith))

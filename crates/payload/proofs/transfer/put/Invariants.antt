@@ -21,8 +21,8 @@ cells_to plan h bits t = put_to (code_with plan h) (data_in plan h bits) t
 
 abbrev pub invariant-loop-at : goal.invariant-loop-at
 invariant-loop-at l =
-    (l.k ≡ data_size (code_with l.plan l.h)) × (l.n2 ≡ l.h.n2) × At (code_with l.plan l.h) l.at
-    × (l.sheet ≡ bytes_in l.lay l.h.n1 l.h.n2 (cells_to l.plan l.h l.bits l.at.cell))
+    (l.k ≡ data_size (code_with l.view.plan.now l.view.header)) × (l.n2 ≡ l.view.header.n2) × At (code_with l.view.plan.now l.view.header) l.at
+    × (l.sheet ≡ bytes_in l.lay l.view.header.n1 l.view.header.n2 (cells_to l.view.plan.now l.view.header l.bits l.at.cell))
 
 abbrev pub decreases-loop-at : goal.decreases-loop-at
-decreases-loop-at l = (l.h.n1 * l.h.n2 + l.h.n1 + 1) - (l.at.cell + l.at.row)
+decreases-loop-at l = (l.view.header.n1 * l.view.header.n2 + l.view.header.n1 + 1) - (l.at.cell + l.at.row)

@@ -10,7 +10,7 @@ use Rattle.payload.proofs.Progress.{take-first, take_step, take_all}
 use Rattle.payload.proofs.transfer.take.Goals as goal
 
 pub overflow_mul-k : goal.overflow_mul-k
-overflow_mul-k c = let s = c.requires.framed.small in omega (arith, sheet-cells s.n1_most s.n2_most)
+overflow_mul-k c = let s = c.args.view.framed.small in omega (arith, sheet-cells s.n1_most s.n2_most)
 
 pub overflow_add-k : goal.overflow_add-k
 overflow_add-k c = omega arith
@@ -22,7 +22,7 @@ pub clear-requires : goal.clear-requires
 clear-requires c = tt
 
 pub start-at-requires : goal.start-at-requires
-start-at-requires c = let pre = c.requires in record { framed = pre.framed; formed = pre.formed }
+start-at-requires c = let pre = c.requires in record { formed = pre.formed }
 
 pub loop-at-init : goal.loop-at-init
 unfolding data_size
@@ -51,7 +51,7 @@ take_run-requires c =
 pub step-at-requires : goal.step-at-requires
 step-at-requires c =
     let pre = c.requires in
-    record { framed = pre.framed; formed = pre.formed; at = c.loop-at.invariant.2; row_lt_n1 = omega arith; len_value = c.run-len.ensures }
+    record { formed = pre.formed; at = c.loop-at.invariant.2; row_lt_n1 = omega arith; len_value = c.run-len.ensures }
 
 pub loop-at-smaller : goal.loop-at-smaller
 loop-at-smaller c =

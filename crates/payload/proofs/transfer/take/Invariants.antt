@@ -11,8 +11,8 @@ use Rattle.payload.proofs.transfer.take.Given as goal
 
 abbrev pub invariant-loop-at : goal.invariant-loop-at
 invariant-loop-at l =
-    (l.k ≡ data_size (code_with l.plan l.h)) × (l.n2 ≡ l.h.n2) × At (code_with l.plan l.h) l.at
-    × (l.bits ≡ bytes_of 1 (data_size (code_with l.plan l.h)) (taken_to (code_with l.plan l.h) (cell_in l.lay l.h.n1 l.h.n2 l.sheet) l.at.cell))
+    (l.k ≡ data_size (code_with l.view.plan.now l.view.header)) × (l.n2 ≡ l.view.header.n2) × At (code_with l.view.plan.now l.view.header) l.at
+    × (l.bits ≡ bytes_of 1 (data_size (code_with l.view.plan.now l.view.header)) (taken_to (code_with l.view.plan.now l.view.header) (cell_in l.lay l.view.header.n1 l.view.header.n2 l.sheet) l.at.cell))
 
 abbrev pub decreases-loop-at : goal.decreases-loop-at
-decreases-loop-at l = (l.h.n1 * l.h.n2 + l.h.n1 + 1) - (l.at.cell + l.at.row)
+decreases-loop-at l = (l.view.header.n1 * l.view.header.n2 + l.view.header.n1 + 1) - (l.at.cell + l.at.row)

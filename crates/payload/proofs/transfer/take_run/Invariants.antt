@@ -1,11 +1,7 @@
 -- `payload::transfer::take_run` meets its contract. The invariant: the first j cells of the run have given their data bits. Assumes nothing.
 use mathlib.Core.Path.{◌≡◌}
-use Prim.Native.Nat.{◌-◌, ◌≤◌}
 use Rattle.payload.specs.Transfer.{take_run}
 use Rattle.payload.proofs.transfer.take_run.Given as goal
 
 abbrev pub invariant-loop-j : goal.invariant-loop-j
-invariant-loop-j l = (l.j ≤ l.len) × (l.bits ≡ take_run l.j l.lay l.n1 l.n2 l.sheet l.k l.initial.bits l.at)
-
-abbrev pub decreases-loop-j : goal.decreases-loop-j
-decreases-loop-j l = l.len - l.j
+invariant-loop-j l = l.bits ≡ take_run l.j l.lay l.n1 l.n2 l.sheet l.k l.initial.bits l.at

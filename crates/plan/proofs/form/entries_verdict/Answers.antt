@@ -1,13 +1,12 @@
--- `plan::form::entries_verdict` meets its contract. Assumes nothing.
-use borrow.Author.Tests.{lt-ltb, le-ltb}
-use Rattle.plan.specs.Verdict.{◌or_else◌}
+-- `plan::form::entries_verdict` meets its contract: V is asked, and then H. Assumes nothing.
 use Rattle.plan.specs.Form.{entries_verdict}
+use Rattle.plan.proofs.Sequence.{stops, goes-on}
 use Rattle.plan.proofs.form.entries_verdict.Goals as goal
 
-pub returns-then-large_row-rows : goal.returns-then-large_row-rows
-unfolding entries_verdict ◌or_else◌
-returns-then-large_row-rows c = rw (← c.first_large-large_row.ensures, lt-ltb _ _ c.if-large_row-rows.true) c.refuse.ensures
+pub returns-in_err-table_verdict : goal.returns-in_err-table_verdict
+unfolding entries_verdict
+returns-in_err-table_verdict c = stops _ _ _ c.from_residual.ensures.1 c.in_err-table_verdict.ensures
 
 pub returns : goal.returns
-unfolding entries_verdict ◌or_else◌
-returns c = rw (← c.first_large-large_row.ensures, ← c.first_large-large_column.ensures, le-ltb _ _ c.if-large_row-rows.false) c.refuse_if.ensures
+unfolding entries_verdict
+returns c = goes-on c.in_ok-table_verdict.ensures c.table_verdict-2.ensures

@@ -1,37 +1,28 @@
 -- `plan::form::sizes_verdict` meets its contract: the first check that fails answers. Assumes nothing.
-use mathlib.Core.Path.{◌≡◌}
-use mathlib.Core.Bool.{true, false}
-use Rattle.plan.specs.Verdict.{◌or_else◌}
-use Rattle.plan.specs.Form.{bad_burst, bad_sheet, bad_widths, sizes_verdict}
+use Rattle.plan.specs.Form.{sizes_verdict}
+use Rattle.plan.proofs.Sequence.{stops, goes-on}
 use Rattle.plan.proofs.form.sizes_verdict.Goals as goal
 
-pub returns-then-bad_burst : goal.returns-then-bad_burst
-unfolding sizes_verdict ◌or_else◌
-returns-then-bad_burst c =
-    let b : bad_burst c.args.h ≡ true = cc in
-    rw b c.refuse.ensures
+pub returns-in_err-refuse_if : goal.returns-in_err-refuse_if
+unfolding sizes_verdict
+returns-in_err-refuse_if c = rw (← c.bad_burst.ensures) (stops _ _ _ c.from_residual.ensures.1 c.in_err-refuse_if.ensures)
 
-pub returns-then-bad_sheet : goal.returns-then-bad_sheet
-unfolding sizes_verdict ◌or_else◌
-returns-then-bad_sheet c =
-    let b : bad_burst c.args.h ≡ false = cc in
-    let s : bad_sheet c.args.h ≡ true = cc in
-    rw (b, s) c.refuse-then-bad_sheet.ensures
+pub returns-in_err-refuse_if-2 : goal.returns-in_err-refuse_if-2
+unfolding sizes_verdict
+returns-in_err-refuse_if-2 c =
+    let s = c.from_residual-in_err-refuse_if-2.ensures.1 in
+    rw (← c.bad_burst.ensures, ← c.bad_sheet.ensures)
+    (goes-on c.in_ok-refuse_if.ensures (stops _ _ _ s c.in_err-refuse_if-2.ensures))
 
-pub returns-then-bad_widths : goal.returns-then-bad_widths
-unfolding sizes_verdict ◌or_else◌
-returns-then-bad_widths c =
-    let h = c.args.h in
-    let b : bad_burst h ≡ false = cc in
-    let s : bad_sheet h ≡ false = cc in
-    let w : bad_widths h ≡ true = cc in
-    rw (b, s, w) c.refuse-then-bad_widths.ensures
+pub returns-in_err-refuse_if-3 : goal.returns-in_err-refuse_if-3
+unfolding sizes_verdict
+returns-in_err-refuse_if-3 c =
+    let s = c.from_residual-in_err-refuse_if-3.ensures.1 in
+    rw (← c.bad_burst.ensures, ← c.bad_sheet.ensures, ← c.bad_widths.ensures)
+    (goes-on c.in_ok-refuse_if.ensures (goes-on c.in_ok-refuse_if-2.ensures (stops _ _ _ s c.in_err-refuse_if-3.ensures)))
 
 pub returns : goal.returns
-unfolding sizes_verdict ◌or_else◌
+unfolding sizes_verdict
 returns c =
-    let h = c.args.h in
-    let b : bad_burst h ≡ false = cc in
-    let s : bad_sheet h ≡ false = cc in
-    let w : bad_widths h ≡ false = cc in
-    rw (b, s, w, ← c.bad_cells.ensures) c.refuse_if.ensures
+    rw (← c.bad_burst.ensures, ← c.bad_sheet.ensures, ← c.bad_widths.ensures, ← c.bad_cells.ensures)
+    (goes-on c.in_ok-refuse_if.ensures (goes-on c.in_ok-refuse_if-2.ensures (goes-on c.in_ok-refuse_if-3.ensures c.refuse_if-4.ensures)))

@@ -9,19 +9,19 @@ use Rattle.position.proofs.Before.{next_here, next_past}
 use Rattle.position.proofs.cursor.next_check.Goals as goal
 
 pub overflow_mul-result : goal.overflow_mul-result
-overflow_mul-result c = let s = c.requires.framed.small in omega (arith, sheet-cells s.n1_most s.n2_most)
+overflow_mul-result c = let s = c.args.view.framed.small in omega (arith, sheet-cells s.n1_most s.n2_most)
 
 pub returns-then-q-h : goal.returns-then-q-h
 returns-then-q-h c = sym (next_past _ _ (omega arith))
 
 pub overflow_mul-result-2 : goal.overflow_mul-result-2
 overflow_mul-result-2 c =
-    let m = pair-most _ c.requires.framed.small _ c.check_cell-cell.ensures.row_below in
+    let m = pair-most _ c.args.view.framed.small _ c.check_cell-cell.ensures.row_below in
     omega arith
 
 pub overflow_add-result : goal.overflow_add-result
 overflow_add-result c =
-    let m = pair-most _ c.requires.framed.small _ c.check_cell-cell.ensures.row_below in
+    let m = pair-most _ c.args.view.framed.small _ c.check_cell-cell.ensures.row_below in
     omega (arith, c.check_cell-cell.ensures)
 
 pub returns : goal.returns

@@ -6,7 +6,7 @@ use Rattle.position.proofs.Stand.{at-begin}
 use Rattle.position.proofs.cursor.start.Goals as goal
 
 pub row_ends-requires : goal.row_ends-requires
-row_ends-requires c = let pre = c.requires in record { framed = pre.framed; formed = pre.formed; row_le_n1 = omega arith; check_value = none_before _ }
+row_ends-requires c = let pre = c.requires in record { formed = pre.formed; row_le_n1 = omega arith; check_value = none_before _ }
 
 pub returns : goal.returns
 returns c = record { at = at-begin _ _ _ c.next_check.ensures c.row_ends.ensures; first = refl }

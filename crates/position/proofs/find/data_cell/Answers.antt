@@ -9,15 +9,15 @@ use Rattle.position.proofs.find.data_cell.Goals as goal
 
 pub overflow_mul-row : goal.overflow_mul-row
 overflow_mul-row c =
-    let m = c.requires.framed.small in
+    let m = c.args.view.framed.small in
     let l = row_on _ c.requires.formed _ _ c.data_after.ensures in
-    omega (arith, pair-most _ m (c.data_after.result / c.args.h.n2) (omega arith))
+    omega (arith, pair-most _ m (c.data_after.result / c.args.view.header.n2) (omega arith))
 
 pub row_ends-requires : goal.row_ends-requires
 row_ends-requires c =
     let p = c.requires in
     let l = row_on _ p.formed _ _ c.data_after.ensures in
-    record { framed = p.framed; formed = p.formed; row_le_n1 = omega arith; check_value = c.checks_before-check.ensures }
+    record { formed = p.formed; row_le_n1 = omega arith; check_value = c.checks_before-check.ensures }
 
 pub bit-place-requires : goal.bit-place-requires
 bit-place-requires c = rw c.row_ends.ensures (bit-room _ c.requires.formed _ _ c.data_after.ensures)
@@ -26,9 +26,9 @@ pub data_after-requires-2 : goal.data_after-requires-2
 data_after-requires-2 c =
     let p = c.requires in
     let e = rw c.row_ends.ensures at c.bit-place.ensures in
-    record { framed = p.framed; formed = p.formed; count_bound = omega (arith, e, p.d_bound, bit_below _ p.formed _ _ c.data_after.ensures) }
+    record { formed = p.formed; count_bound = omega (arith, e, p.d_bound, bit_below _ p.formed _ _ c.data_after.ensures) }
 
 pub returns : goal.returns
 returns c =
-    let S : Follows (code_with c.args.plan.now c.args.h) c.bit-place.result c.data_after-2.result = c.data_after-2.ensures in
+    let S : Follows (code_with c.args.view.plan.now c.args.view.header) c.bit-place.result c.data_after-2.result = c.data_after-2.ensures in
     holds_at _ c.requires.formed _ _ c.data_after.ensures _ (rw (c.bit-place.ensures, c.row_ends.ensures) at S)

@@ -22,15 +22,15 @@ returns-then-told c =
     let a = c.args in
     let F = taken_out c.unpack-told.ensures in
     let W = outside_told _ F c.outside.ensures ∙ c.if-outside.false in
-    let n : not (eqb a.answer 0) ≡ no_burst (code_with a.plan.now a.h) a.answer =
-    no-nothing _ c.requires.formed _ W (wide-told F c.if-told.true) in
+    let n : not (eqb a.answer 0) ≡ no_burst (code_with a.accepted.view.plan.now a.accepted.view.header) a.answer =
+    no-nothing _ c.args.accepted.accepted.formed _ W (wide-told F c.if-told.true) in
     n
 
 pub report_of-report-requires : goal.report_of-report-requires
 report_of-report-requires c =
     let F = taken_out c.unpack-told.ensures in
     let W = outside_told _ F c.outside.ensures ∙ c.if-outside.false in
-    let r = report-needs _ c.requires.formed _ W (wide-told F c.if-told.false) F in
+    let r = report-needs _ c.args.accepted.accepted.formed _ W (wide-told F c.if-told.false) F in
     record { burst_size = r.0; top_bound = r.1 }
 
 pub returns-then-not-few : goal.returns-then-not-few
@@ -38,7 +38,7 @@ returns-then-not-few c =
     let F = taken_out c.unpack-told.ensures in
     let W = outside_told _ F c.outside.ensures ∙ c.if-outside.false in
     let S = wide-told F c.if-told.false in
-    let K = told-crowded _ c.requires.formed _ W S F c.report_of-report.ensures c.few.ensures in
+    let K = told-crowded _ c.args.accepted.accepted.formed _ W S F c.report_of-report.ensures c.few.ensures in
     no-crowded _ _ W (K ∙ ap not c.if-not-few.true)
 
 pub pack_report-requires : goal.pack_report-requires
@@ -46,8 +46,8 @@ pack_report-requires c =
     let F = taken_out c.unpack-told.ensures in
     let W = outside_told _ F c.outside.ensures ∙ c.if-outside.false in
     let S = wide-told F c.if-told.false in
-    let K = told-crowded _ c.requires.formed _ W S F c.report_of-report.ensures c.few.ensures in
-    told-range _ c.requires.formed _ W S F c.report_of-report.ensures (K ∙ ap not c.if-not-few.false) c.accept.ensures
+    let K = told-crowded _ c.args.accepted.accepted.formed _ W S F c.report_of-report.ensures c.few.ensures in
+    told-range _ c.args.accepted.accepted.formed _ W S F c.report_of-report.ensures (K ∙ ap not c.if-not-few.false) c.told.ensures
 
 pub returns : goal.returns
 returns c =
@@ -55,7 +55,7 @@ returns c =
     let F = taken_out c.unpack-told.ensures in
     let W = outside_told _ F c.outside.ensures ∙ c.if-outside.false in
     let S = wide-told F c.if-told.false in
-    let K = told-crowded _ c.requires.formed _ W S F c.report_of-report.ensures c.few.ensures in
-    let n : not (eqb c.pack_report.result g.answer) ≡ no_burst (code_with g.plan.now g.h) g.answer =
-    no_other _ c.requires.formed _ W S F c.report_of-report.ensures (K ∙ ap not c.if-not-few.false) c.accept.ensures c.pack_report.ensures in
+    let K = told-crowded _ c.args.accepted.accepted.formed _ W S F c.report_of-report.ensures c.few.ensures in
+    let n : not (eqb c.pack_report.result g.answer) ≡ no_burst (code_with g.accepted.view.plan.now g.accepted.view.header) g.answer =
+    no_other _ c.args.accepted.accepted.formed _ W S F c.report_of-report.ensures (K ∙ ap not c.if-not-few.false) c.told.ensures c.pack_report.ensures in
     n

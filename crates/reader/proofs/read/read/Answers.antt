@@ -1,32 +1,26 @@
 -- `reader::read::read` meets its contract: what writes is reached only where checks 1 to 12 pass. Assumes nothing.
-use mathlib.Core.Path.{◌≡◌, refl, ap}
-use native.Mathlib.Omega.{arith}
-use Rattle.plan.specs.declared.verdict.Verdict.{Verdict}
+use mathlib.Core.Path.{refl}
 use Rattle.plan.specs.Bytes.{code_of}
+use Rattle.plan.proofs.Framing.{same-header}
+use Rattle.plan.proofs.Sequence.{turned-back}
 use Rattle.accept.proofs.Acceptance.{accepted-with}
-use Rattle.buffers.specs.Buffers.{length_checks}
-use Rattle.buffers.proofs.Passing.{Lengths, length-zero, checked-passes}
-use Rattle.reader.proofs.Outcome.{lengths-refuse}
+use Rattle.buffers.proofs.Passing.{length-zero, checked-passes}
+use Rattle.reader.proofs.Outcome.{told-refusal, lengths-refuse}
 use Rattle.reader.proofs.read.read.Goals as goal
 
-pub returns-then-checked-ne0 : goal.returns-then-checked-ne0
-returns-then-checked-ne0 c =
-    let a = c.args in
-    let e = c.length_checks-checked.ensures.verdict in
-    let n = ap (λ (v : Verdict). v.number) e in
-    rw (c.refused_as.ensures, e) (lengths-refuse a.lay a.plan.now a.sheet.now a.bits.now (λ z. omega (arith, c.if-checked-ne0.true)))
-
-pub header_of-requires : goal.header_of-requires
-header_of-requires c =
-    let passes : let a = c.args in (length_checks a.lay a.plan.now a.sheet.now a.bits.now).number ≡ 0 = checked-passes c.length_checks-checked.ensures c.if-checked-ne0.false in
-    let ready : let a = c.args in Lengths a.lay a.plan.now a.sheet.now a.bits.now = length-zero _ _ _ _ passes in
-    let f = ready.accepted.framed in omega arith
+pub returns-in_err-accepted : goal.returns-in_err-accepted
+returns-in_err-accepted c =
+    let e = c.in_err-accepted.ensures.checked.verdict in
+    rw (told-refusal _ _ c.from_residual.ensures.1, e) (lengths-refuse _ _ _ _ (turned-back _ e))
 
 pub read_lent-requires : goal.read_lent-requires
 unfolding code_of
 read_lent-requires c =
-    let passes : let a = c.args in (length_checks a.lay a.plan.now a.sheet.now a.bits.now).number ≡ 0 = checked-passes c.length_checks-checked.ensures c.if-checked-ne0.false in
-    let ready : let a = c.args in Lengths a.lay a.plan.now a.sheet.now a.bits.now = length-zero _ _ _ _ passes in
-    let R = ready in
-    let u = c.length_checks-checked.ensures.unpacked c.if-checked-ne0.false in
-    rw c.header_of.ensures (record { accepted_with = accepted-with _ _ refl R.accepted; unpacked = u; sheet_len = R.sheet_len; bits_len = R.bits_size })
+    let C = c.in_ok-accepted.ensures.checked in
+    let R = length-zero _ _ _ _ (checked-passes C) in
+    let e = c.in_ok-accepted.ensures.view in
+    rw (same-header c.in_ok-accepted.accepted.view.framed e, e)
+    (record { unpacked = C.unpacked refl; sheet_len = R.sheet_len; bits_len = R.bits_size })
+
+pub returns : goal.returns
+returns c = rw c.in_ok-accepted.ensures.view at c.read_lent.ensures

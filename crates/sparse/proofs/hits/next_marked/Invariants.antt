@@ -1,8 +1,5 @@
 -- `sparse::hits::next_marked` meets its contract. The invariant: no place before l makes with k a number that has a mark. Assumes nothing.
-use mathlib.Core.Path.{◌≡◌}
-use mathlib.Core.Bool.{Bool, false}
-use mathlib.Core.List.{List}
-use Prim.Native.Nat.{ℕ, ◌-◌, ◌≤◌, ◌<◌}
+use Rattle.std.proofs.Common.{◌≡◌, ℕ, ◌≤◌, ◌<◌, Bool, false, List}
 use Rattle.gf2.specs.Xor.{◌⊕◌}
 use Rattle.plan.specs.Table.{word_at}
 use Rattle.sparse.specs.Sets.{has_mark}
@@ -13,7 +10,4 @@ abbrev pub mark_at : List ℕ → List ℕ → ℕ → ℕ → Bool
 mark_at words marks k j = has_mark marks (word_at words j ⊕ word_at words k)
 
 abbrev pub invariant-loop-l : goal.invariant-loop-l
-invariant-loop-l l = ((j : ℕ) → l.from ≤ j → j < l.l → mark_at l.words l.marks l.k j ≡ false) × (l.from ≤ l.l) × (l.l ≤ l.k)
-
-abbrev pub decreases-loop-l : goal.decreases-loop-l
-decreases-loop-l l = l.k - l.l
+invariant-loop-l l = (j : ℕ) → l.from ≤ j → j < l.l → mark_at l.words l.marks l.k j ≡ false

@@ -1,42 +1,23 @@
-use mathlib.Core.Path.{◌≡◌, refl, ap, ◌∙◌}
-use mathlib.Core.Bool.{Bool, ◌||◌}
-use Prim.Native.Nat.{ℕ}
-use native.Mathlib.Omega.{arith}
-use lib.Dec.{eqb}
-use lib.ListN.{length}
+use Rattle.std.proofs.Common.{◌≡◌, ℕ, Bool, ◌||◌, length, nat_eq, refl, ap, ◌∙◌, arith}
 use Rattle.finite.specs.Search.{any_below}
 use Rattle.plan.specs.Table.{word_at}
 use Rattle.sparse.specs.Sets.{one_of}
 use Rattle.sparse.proofs.Marks.{any_last}
 use Rattle.sparse.proofs.sums.among.Goals as goal
 
-pub loop-d-init : goal.loop-d-init
+pub loop-sum-init : goal.loop-sum-init
 unfolding any_below
-loop-d-init c = (refl, omega arith)
+loop-sum-init c = refl
 
-pub offset_bounds-sums-d : goal.offset_bounds-sums-d
-offset_bounds-sums-d c = omega arith
-
-pub bounds-sums-d : goal.bounds-sums-d
-bounds-sums-d c = omega arith
-
-pub overflow_add-d : goal.overflow_add-d
-overflow_add-d c = omega arith
-
-pub loop-d-smaller : goal.loop-d-smaller
-loop-d-smaller c = omega arith
-
-pub loop-d-preserved : goal.loop-d-preserved
-loop-d-preserved c =
-    let l = c.loop-d in
-    let a = c.args in
-    let p : ℕ → Bool = λ e. eqb (word_at a.sums.now e) a.x in
-    (ap (λ (b : Bool). b || p l.d) l.invariant.0 ∙ any_last l.d p, omega arith)
+pub loop-sum-preserved : goal.loop-sum-preserved
+loop-sum-preserved c =
+    let l = c.loop-sum in
+    let p : ℕ → Bool = λ e. nat_eq (word_at c.args.sums.now e) c.args.x in
+    ap (λ (b : Bool). b || p l.sum-index) l.invariant ∙ any_last l.sum-index p
 
 pub returns : goal.returns
 unfolding one_of
 returns c =
-    let l = c.loop-d in
     let a = c.args in
-    let e : l.d ≡ length a.sums.now = omega arith in
-    l.invariant.0 ∙ ap (λ (n : ℕ). any_below n (λ k. eqb (word_at a.sums.now k) a.x)) e
+    let e : c.loop-sum.sum-index ≡ length a.sums.now = omega arith in
+    rw e at c.loop-sum.invariant

@@ -20,20 +20,20 @@ use Rattle.stack.proofs.reading.read_at.Goals as goal
 pub returns : goal.returns
 unfolding data_size
 returns c =
-    let place_is : let a = c.args in c.place-start.result ≡ sheet_place (sheet_size ((code_with c.args.plan.now c.args.h))) a.count a.i = let a = c.args in
+    let place_is : let a = c.args in c.place-start.result ≡ sheet_place (sheet_size ((code_with c.args.accepted.view.plan.now c.args.accepted.view.header))) a.count a.i = let a = c.args in
     let e : c.place-start.result ≡ sheet_place c.sheet_bytes-size.result a.count a.i = c.place-start.ensures in
     e ∙ ap (λ (k : ℕ). sheet_place k a.count a.i) c.sheet_bytes-size.ensures.0 in
     let a = c.args in
-    step-taken a.plan.now ((code_with c.args.plan.now c.args.h)) a.count a.i a.stack.now a.numbers.now a.bits.now _ _ _ place_is
+    step-taken a.accepted.view.plan.now ((code_with c.args.accepted.view.plan.now c.args.accepted.view.header)) a.count a.i a.stack.now a.numbers.now a.bits.now _ _ _ place_is
     c.sheet_bytes-size.ensures.0 c.data_bytes-length.ensures.0 _ c.read_sheet.ensures
 
 pub slice_bounds-read_sheet-end : goal.slice_bounds-read_sheet-end
 slice_bounds-read_sheet-end c =
-    let place_is : let a = c.args in c.place-start.result ≡ sheet_place (sheet_size ((code_with c.args.plan.now c.args.h))) a.count a.i = let a = c.args in
+    let place_is : let a = c.args in c.place-start.result ≡ sheet_place (sheet_size ((code_with c.args.accepted.view.plan.now c.args.accepted.view.header))) a.count a.i = let a = c.args in
     let e : c.place-start.result ≡ sheet_place c.sheet_bytes-size.result a.count a.i = c.place-start.ensures in
     e ∙ ap (λ (k : ℕ). sheet_place k a.count a.i) c.sheet_bytes-size.ensures.0 in
-    let sheet-in : sheet_place (sheet_size ((code_with c.args.plan.now c.args.h))) c.args.count c.args.i + sheet_size ((code_with c.args.plan.now c.args.h)) ≤ length c.args.stack.now = let p = c.requires in
-    sheet-inside c.args.plan.now ((code_with c.args.plan.now c.args.h)) (framed-code _ _ p.accepted_with.framed) c.args.count ((lent c.args.stack.now c.args.numbers.now c.args.bits.now)) p.sized c.args.i p.count_bound.1 in
+    let sheet-in : sheet_place (sheet_size ((code_with c.args.accepted.view.plan.now c.args.accepted.view.header))) c.args.count c.args.i + sheet_size ((code_with c.args.accepted.view.plan.now c.args.accepted.view.header)) ≤ length c.args.stack.now = let p = c.requires in
+    sheet-inside c.args.accepted.view.plan.now ((code_with c.args.accepted.view.plan.now c.args.accepted.view.header)) (framed-code _ _ c.args.accepted.accepted.framed) c.args.count ((lent c.args.stack.now c.args.numbers.now c.args.bits.now)) p.sized c.args.i p.count_bound.1 in
     let e : c.place-start.result + c.sheet_bytes-size.result ≤ length c.args.stack.now =
     (let s = sheet-in in omega (arith, place_is, c.sheet_bytes-size.ensures.0)) in
     e
@@ -41,8 +41,8 @@ slice_bounds-read_sheet-end c =
 pub slice_bounds-read_sheet-end-3 : goal.slice_bounds-read_sheet-end-3
 unfolding data_size
 slice_bounds-read_sheet-end-3 c =
-    let bits_in : c.args.i * data_bytes ((code_with c.args.plan.now c.args.h)) + data_bytes ((code_with c.args.plan.now c.args.h)) ≤ length c.args.bits.now = let p = c.requires in
-    bits_inside c.args.plan.now ((code_with c.args.plan.now c.args.h)) (framed-code _ _ p.accepted_with.framed) c.args.count ((lent c.args.stack.now c.args.numbers.now c.args.bits.now)) p.sized c.args.i p.count_bound.1 in
+    let bits_in : c.args.i * data_bytes ((code_with c.args.accepted.view.plan.now c.args.accepted.view.header)) + data_bytes ((code_with c.args.accepted.view.plan.now c.args.accepted.view.header)) ≤ length c.args.bits.now = let p = c.requires in
+    bits_inside c.args.accepted.view.plan.now ((code_with c.args.accepted.view.plan.now c.args.accepted.view.header)) (framed-code _ _ c.args.accepted.accepted.framed) c.args.count ((lent c.args.stack.now c.args.numbers.now c.args.bits.now)) p.sized c.args.i p.count_bound.1 in
     rw c.data_bytes-length.ensures.0 bits_in
 
 pub overflow_add-end : goal.overflow_add-end
@@ -56,7 +56,7 @@ overflow_add-end c =
 pub data_bytes-length-requires : goal.data_bytes-length-requires
 data_bytes-length-requires c =
     let p = c.requires in
-    record { small = p.accepted_with.framed.small; rh_bound = checks-fit _ p.accepted_with.formed }
+    record { small = c.args.accepted.accepted.framed.small; rh_bound = checks-fit _ c.args.accepted.accepted.formed }
 
 pub overflow_mul-from : goal.overflow_mul-from
 overflow_mul-from c =
@@ -75,18 +75,17 @@ overflow_add-to c =
 pub read_sheet-requires : goal.read_sheet-requires
 unfolding data_size
 read_sheet-requires c =
-    let place_is : let a = c.args in c.place-start.result ≡ sheet_place (sheet_size ((code_with c.args.plan.now c.args.h))) a.count a.i = let a = c.args in
+    let place_is : let a = c.args in c.place-start.result ≡ sheet_place (sheet_size ((code_with c.args.accepted.view.plan.now c.args.accepted.view.header))) a.count a.i = let a = c.args in
     let e : c.place-start.result ≡ sheet_place c.sheet_bytes-size.result a.count a.i = c.place-start.ensures in
     e ∙ ap (λ (k : ℕ). sheet_place k a.count a.i) c.sheet_bytes-size.ensures.0 in
-    let sheet-in : sheet_place (sheet_size ((code_with c.args.plan.now c.args.h))) c.args.count c.args.i + sheet_size ((code_with c.args.plan.now c.args.h)) ≤ length c.args.stack.now = let p = c.requires in
-    sheet-inside c.args.plan.now ((code_with c.args.plan.now c.args.h)) (framed-code _ _ p.accepted_with.framed) c.args.count ((lent c.args.stack.now c.args.numbers.now c.args.bits.now)) p.sized c.args.i p.count_bound.1 in
-    let bits_in : c.args.i * data_bytes ((code_with c.args.plan.now c.args.h)) + data_bytes ((code_with c.args.plan.now c.args.h)) ≤ length c.args.bits.now = let p = c.requires in
-    bits_inside c.args.plan.now ((code_with c.args.plan.now c.args.h)) (framed-code _ _ p.accepted_with.framed) c.args.count ((lent c.args.stack.now c.args.numbers.now c.args.bits.now)) p.sized c.args.i p.count_bound.1 in
+    let sheet-in : sheet_place (sheet_size ((code_with c.args.accepted.view.plan.now c.args.accepted.view.header))) c.args.count c.args.i + sheet_size ((code_with c.args.accepted.view.plan.now c.args.accepted.view.header)) ≤ length c.args.stack.now = let p = c.requires in
+    sheet-inside c.args.accepted.view.plan.now ((code_with c.args.accepted.view.plan.now c.args.accepted.view.header)) (framed-code _ _ c.args.accepted.accepted.framed) c.args.count ((lent c.args.stack.now c.args.numbers.now c.args.bits.now)) p.sized c.args.i p.count_bound.1 in
+    let bits_in : c.args.i * data_bytes ((code_with c.args.accepted.view.plan.now c.args.accepted.view.header)) + data_bytes ((code_with c.args.accepted.view.plan.now c.args.accepted.view.header)) ≤ length c.args.bits.now = let p = c.requires in
+    bits_inside c.args.accepted.view.plan.now ((code_with c.args.accepted.view.plan.now c.args.accepted.view.header)) (framed-code _ _ c.args.accepted.accepted.framed) c.args.count ((lent c.args.stack.now c.args.numbers.now c.args.bits.now)) p.sized c.args.i p.count_bound.1 in
     let p = c.requires in
     let a = c.args in
     let size = c.sheet_bytes-size.ensures.0 in
     let bits = c.data_bytes-length.ensures.0 in record {
-      accepted_with = p.accepted_with;
       unpacked = p.unpacked;
       sheet_len = ap length (cut-part a.stack.now _ _ _ _ place_is size) ∙ part_length a.stack.now _ _ sheet-in;
       numbers_len = ap length (cut-part a.numbers.now (a.i * numbers_size) numbers_size (a.i * numbers_size) numbers_size refl refl)

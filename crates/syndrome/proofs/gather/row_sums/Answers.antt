@@ -1,90 +1,50 @@
-use mathlib.Core.Path.{◌≡◌, refl, sym}
-use Prim.Native.Nat.{◌+◌, ◌*◌, ◌≤◌, ◌<◌}
-use native.Mathlib.Nat.{mul-le-mul_right}
+use mathlib.Core.Path.{◌≡◌}
+use Prim.Native.Nat.{ℕ, ◌+◌, ◌-◌, ◌*◌, ◌<◌}
 use native.Mathlib.Omega.{arith}
-use lib.Arith.{digits_lt}
-use lib.ListN.{length}
-use Rattle.layout.specs.Cells.{row_bytes, sheet_bytes}
-use Rattle.syndrome.proofs.Line.{cell-in-byte, line_first, line-next, words_of, line-done}
+use lib.ListN.{length-take}
+use lib.Seq.{get_or-drop, get_or-take}
+use Rattle.layout.specs.Cells.{row_bytes}
+use Rattle.syndrome.proofs.Line.{row_inside, cell-in-byte, line_first, line-next, line-done}
 use Rattle.syndrome.proofs.gather.row_sums.Goals as goal
 
-pub row_words-words-requires : goal.row_words-words-requires
-row_words-words-requires c = record { framed = c.requires.framed; i_lt_n1 = c.requires.i_lt_n1 }
-
-pub row_bytes-size-requires : goal.row_bytes-size-requires
-row_bytes-size-requires c = omega arith
-
 pub overflow_mul-from : goal.overflow_mul-from
-unfolding sheet_bytes
 overflow_mul-from c =
-    let a = c.args in
-    let size = c.row_bytes-size.result in
-    let l : a.i * size ≤ a.h.n1 * size = mul-le-mul_right size (omega arith) in
-    let e : a.h.n1 * size ≡ length a.sheet.now = rw c.row_bytes-size.ensures (sym c.requires.sheet_len) in
-    omega arith
+    let p = c.requires in
+    let inside = row_inside _ _ c.args.i _ _ c.row_bytes-size.ensures p.sheet_len p.i_lt_n1 in omega (arith, inside)
+
+pub overflow_add-x-items : goal.overflow_add-x-items
+overflow_add-x-items c =
+    let p = c.requires in
+    let inside = row_inside _ _ c.args.i _ _ c.row_bytes-size.ensures p.sheet_len p.i_lt_n1 in omega (arith, inside)
+
+pub slice_bounds-x-items-end : goal.slice_bounds-x-items-end
+slice_bounds-x-items-end c =
+    let p = c.requires in
+    let inside = row_inside _ _ c.args.i _ _ c.row_bytes-size.ensures p.sheet_len p.i_lt_n1 in omega (arith, inside)
 
 pub loop-b-init : goal.loop-b-init
-loop-b-init c = (
-  omega arith,
-  c.row_bytes-size.ensures,
-  refl,
-  c.row_words-words.ensures,
-  line_first _ _ _ _,
-)
-
-pub overflow_add-from : goal.overflow_add-from
-unfolding sheet_bytes
-overflow_add-from c =
-    let inside : c.args.i * c.row_bytes-size.result + c.loop-b.b < length c.args.sheet.now = let a = c.args in
-    let size = c.row_bytes-size.result in
-    let l : a.i * size + c.loop-b.b < a.h.n1 * size = digits_lt c.requires.i_lt_n1 c.loop-b-test.true in
-    let e : a.h.n1 * size ≡ length a.sheet.now = rw c.loop-b.invariant.1 (sym c.requires.sheet_len) in
-    omega arith in
-    let l = inside in omega arith
-
-pub bounds-sheet-from : goal.bounds-sheet-from
-unfolding sheet_bytes
-bounds-sheet-from c =
-    let inside : c.args.i * c.row_bytes-size.result + c.loop-b.b < length c.args.sheet.now = let a = c.args in
-    let size = c.row_bytes-size.result in
-    let l : a.i * size + c.loop-b.b < a.h.n1 * size = digits_lt c.requires.i_lt_n1 c.loop-b-test.true in
-    let e : a.h.n1 * size ≡ length a.sheet.now = rw c.loop-b.invariant.1 (sym c.requires.sheet_len) in
-    omega arith in
-    let l = inside in omega arith
+loop-b-init c = line_first _ _ _ _
 
 pub overflow_mul-b : goal.overflow_mul-b
 unfolding row_bytes
-overflow_mul-b c = omega arith
+overflow_mul-b c = omega (arith, length-take {A = ℕ})
 
-pub slice_bounds-byte_sums-end : goal.slice_bounds-byte_sums-end
-slice_bounds-byte_sums-end c = omega (arith, c.loop-b.invariant.3.size)
-
-pub byte_sums-s-requires : goal.byte_sums-s-requires
+pub byte_sums-requires-clause-j_lt_n2 : goal.byte_sums-requires-clause-j_lt_n2
 unfolding row_bytes
-byte_sums-s-requires c =
-    let p = c.requires in
-    record { words = rw p.q_value (words_of _ _ p.framed _ p.unpacked _ p.i_lt_n1 _ c.loop-b.invariant.3); j_lt_n2 = omega arith }
-
-pub overflow_add-b : goal.overflow_add-b
-overflow_add-b c = omega arith
-
-pub loop-b-smaller : goal.loop-b-smaller
-loop-b-smaller c = omega arith
+byte_sums-requires-clause-j_lt_n2 c = omega (arith, length-take {A = ℕ})
 
 pub loop-b-preserved : goal.loop-b-preserved
 unfolding row_bytes
 loop-b-preserved c =
-    let v = c.loop-b.invariant in
-    let b = c.loop-b.b in (
-      omega arith,
-      v.1,
-      refl,
-      v.3,
-      line-next _ _ _ _ _ _ b _ _ v.4 (omega arith) (λ t l. rw v.1 (cell-in-byte _ _ _ b t l)) c.byte_sums-s.ensures,
-    )
+    let b = c.loop-b.b in
+    let size = c.row_bytes-size.result in
+    let l : b < c.args.i * size + size - c.args.i * size = omega (arith, length-take {A = ℕ}) in
+    let s = simp (get_or-take, get_or-drop) at c.byte_sums.ensures in
+    rw c.bitxor-held.ensures
+    (line-next _ _ _ _ _ _ b _ _ c.loop-b.invariant (omega (arith, l)) (λ t lt. rw c.row_bytes-size.ensures (cell-in-byte _ _ _ b t lt)) s)
 
 pub returns : goal.returns
 returns c =
-    let v = c.loop-b.invariant in
-    let e : c.loop-b.b ≡ row_bytes c.args.h.n2 = omega arith in
-    line-done _ _ c.requires.framed _ c.requires.unpacked _ c.requires.i_lt_n1 _ v.3 _ _ _ _ e (rw c.requires.q_value at v.4)
+    let e : c.loop-b.b ≡ row_bytes c.args.view.header.n2 = omega (arith, length-take {A = ℕ}) in
+    let p = c.requires in
+    line-done _ _ c.args.view.framed _ p.unpacked _ p.i_lt_n1 _ c.row_words-words.ensures _ _ _ _ e (rw p.q_value at c.loop-b.invariant)

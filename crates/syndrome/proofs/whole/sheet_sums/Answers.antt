@@ -5,12 +5,12 @@ use Rattle.syndrome.proofs.whole.sheet_sums.Goals as goal
 pub sums-requires : goal.sums-requires
 sums-requires c =
     let p = c.requires in
-    record { framed = p.framed; unpacked = p.unpacked; sheet_len = rw c.in-ByRow.is at p.sheet_len }
+    record { unpacked = p.unpacked; sheet_len = rw c.in-ByRow.is at p.sheet_len }
 
 pub column_sums-requires : goal.column_sums-requires
 column_sums-requires c =
     let p = c.requires in
-    record { framed = p.framed; unpacked = p.unpacked; sheet_len = rw c.in-ByColumn.is at p.sheet_len }
+    record { unpacked = p.unpacked; sheet_len = rw c.in-ByColumn.is at p.sheet_len }
 
 pub returns-in-ByRow : goal.returns-in-ByRow
 returns-in-ByRow c = rw c.in-ByRow.is (sheet-sums _ _ _ c.sums.ensures)

@@ -2,7 +2,7 @@ use mathlib.Core.Path.{◌≡◌, refl, ap, ap₂, ◌∙◌}
 use Prim.Native.Nat.{ℕ, ◌+◌, ◌<◌}
 use native.Mathlib.Omega.{arith}
 use Rattle.finite.specs.Search.{number_of}
-use Rattle.layout.specs.Cells.{sheet_bytes, byte_of, cell_of}
+use Rattle.layout.specs.Cells.{sheet_bytes, byte_of}
 use Rattle.layout.proofs.Form.{byte_inside}
 use Rattle.transpose.proofs.Transposed.{gathered-more, gathered-fits, byte_next, byte_fits}
 use Rattle.transpose.proofs.transposing.gathered.Goals as goal
@@ -11,22 +11,16 @@ pub loop-t-init : goal.loop-t-init
 unfolding number_of
 loop-t-init c =
     let a = c.args in
-    let starts : c.byte_of-k.result ≡ byte_of a.n2 a.i a.j = c.byte_of-k.ensures in
     let e : a.i ≡ a.i + 0 = omega arith in
-    (refl, starts ∙ ap (λ (x : ℕ). byte_of a.n2 x a.j) e, c.row_bytes-size.ensures, omega arith)
+    (refl, c.byte_of-k.ensures ∙ ap (λ (x : ℕ). byte_of a.n2 x a.j) e)
 
 pub loop-t-preserved : goal.loop-t-preserved
 loop-t-preserved c =
     let a = c.args in
     let l = c.loop-t in (
       gathered-more a.n2 a.source.now a.i a.j l.t l.k l.number l.invariant.0 l.invariant.1 (omega arith),
-      ap₂ ◌+◌ l.invariant.1 l.invariant.2 ∙ byte_next _ _ _ _,
-      l.invariant.2,
-      omega arith,
+      ap₂ ◌+◌ l.invariant.1 c.row_bytes-size.ensures ∙ byte_next _ _ _ _,
     )
-
-pub row_bytes-size-requires : goal.row_bytes-size-requires
-row_bytes-size-requires c = omega arith
 
 pub byte_of-k-requires : goal.byte_of-k-requires
 byte_of-k-requires c = (omega arith, byte_fits _ _ _ (omega arith) (omega arith) (omega arith))
@@ -37,18 +31,6 @@ bounds-source-k c =
     let t = c.loop-t.t in
     let l : byte_of a.n2 (a.i + t) a.j < sheet_bytes (a.i + a.count) a.n2 = byte_inside _ _ (omega arith) _ _ (omega arith) in
     omega arith
-
-pub overflow_cast-number : goal.overflow_cast-number
-overflow_cast-number c = omega arith
-
-pub overflow_shr-number : goal.overflow_shr-number
-overflow_shr-number c = omega arith
-
-pub overflow_cast-number-in-loop-t : goal.overflow_cast-number-in-loop-t
-overflow_cast-number-in-loop-t c = omega arith
-
-pub overflow_shl-number : goal.overflow_shl-number
-overflow_shl-number c = omega arith
 
 pub overflow_add-number : goal.overflow_add-number
 overflow_add-number c =
@@ -63,15 +45,3 @@ overflow_add-k c =
     let e = byte_next a.n2 a.i t a.j in
     let l = byte_fits a.n2 (a.i + (t + 1)) a.j (omega arith) (omega arith) (omega arith) in
     omega arith
-
-pub overflow_add-t : goal.overflow_add-t
-overflow_add-t c = omega arith
-
-pub loop-t-smaller : goal.loop-t-smaller
-loop-t-smaller c = omega arith
-
-pub returns : goal.returns
-returns c =
-    let a = c.args in
-    let e : c.loop-t.t ≡ a.count = omega arith in
-    c.loop-t.invariant.0 ∙ ap (λ (n : ℕ). number_of n (λ u. cell_of a.n2 a.source.now (a.i + u) a.j)) e

@@ -14,4 +14,4 @@ unfolding fits_few
 returns c =
     let a = c.args in
     let e = sym c.has_sums.ensures ∙ c.if-not-has_sums.false in
-    rw e (c.has_few.ensures ∙ ap (λ (z : ℕ). few a.t (count_below a.n (bit z))) c.wide.ensures)
+    rw e (c.has_few.ensures ∙ ap (λ (z : ℕ). few a.t (count_below a.n (bit z))) c.from.ensures)

@@ -10,5 +10,5 @@ pub returns : goal.returns
 unfolding patterns
 returns c =
     let p = c.requires in
-    let same = gathered-tried (code_with c.args.plan.now c.args.h) _ _ p.b1_bound p.b2_bound p.framed.small.box_positions _ _ in
+    let same = gathered-tried (code_with c.args.view.plan.now c.args.view.header) _ _ p.b1_bound p.b2_bound c.args.view.framed.small.box_positions _ _ in
     c.first_pattern.ensures ∙ least-equal _ _ _ (λ x l. same c.gather-rows.ensures c.gather-columns.ensures _ _ x)

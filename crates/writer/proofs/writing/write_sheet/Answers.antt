@@ -10,23 +10,23 @@ use Rattle.writer.proofs.writing.write_sheet.Goals as goal
 pub put-requires : goal.put-requires
 put-requires c =
     let p = c.requires in
-    record { framed = p.accepted_with.framed; formed = p.accepted_with.formed; bits_len = p.bits_len; sheet_len = p.sheet_len }
+    record { formed = c.args.accepted.accepted.formed; bits_len = p.bits_len; sheet_len = p.sheet_len }
 
 pub joint_sum-sum-requires : goal.joint_sum-sum-requires
 joint_sum-sum-requires c =
     let p = c.requires in
-    record { framed = p.accepted_with.framed; formed = p.accepted_with.formed; unpacked = p.unpacked; sheet_len = c.put.auto.sheet ∙ p.sheet_len }
+    record { formed = c.args.accepted.accepted.formed; unpacked = p.unpacked; sheet_len = c.put.auto.sheet ∙ p.sheet_len }
 
 pub balance-requires : goal.balance-requires
 balance-requires c =
     let a = c.args in
-    let code = code_with a.plan.now a.h in
-    let filled = (laws a.lay a.h.n1 a.h.n2).form (fill code (data_bits (data_size code) a.bits.now) 0) in
-    record { accepted_with = c.requires.accepted_with; form_in = rw c.put.ensures filled; joint_sum = c.joint_sum-sum.ensures }
+    let code = code_with a.accepted.view.plan.now a.accepted.view.header in
+    let filled = (laws a.lay a.accepted.view.header.n1 a.accepted.view.header.n2).form (fill code (data_bits (data_size code) a.bits.now) 0) in
+    record { form_in = rw c.put.ensures filled; joint_sum = c.joint_sum-sum.ensures }
 
 pub returns : goal.returns
 returns c =
-    let A = c.requires.accepted_with in
-    let code = code_with c.args.plan.now c.args.h in
+    let A = c.args.accepted.accepted in
+    let code = code_with c.args.accepted.view.plan.now c.args.accepted.view.header in
     filled-written c.args.lay code A.formed A.conditions (data_bits (data_size code) c.args.bits.now) _ _
     c.put.ensures c.balance.ensures

@@ -1,8 +1,0 @@
--- `accept::search::start_of` meets its contract: each arm is told which table it has. Assumes nothing.
-use Rattle.accept.proofs.search.start_of.Goals as goal
-
-pub returns-in-Rows : goal.returns-in-Rows
-returns-in-Rows c = rw c.in-Rows.is
-
-pub returns-in-Columns : goal.returns-in-Columns
-returns-in-Columns c = rw c.in-Columns.is
