@@ -30,7 +30,8 @@ fn parameters() -> Parameters
     }
 }
 
-// Lays out the tables, once the buffer has the right length: nothing is worked out before.
+// Lays out the tables, once the buffer has the right length: nothing is worked out before. It is the maker's but for one line: handed over
+// as a closure, that line would need a clause on what it lays in both functions, and be longer than what it saves.
 fn make_checked(plan: &mut [u8]) -> Result<(), Refusal>
     requires { (given_checks house_parameters (length plan.old)).number ≡ 0 }
     ensures { made (told result) plan.new ≡ make house_parameters plan.old }

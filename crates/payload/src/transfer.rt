@@ -33,7 +33,8 @@ fn put_run(
     }
 }
 
-// The cells of a run into their data bits, which are 0 before.
+// The cells of a run into their data bits, which are 0 before. It is put_run the other way round: a closure for the two lines would have to
+// say in its clauses what it does to either buffer.
 fn take_run(
     lay: Layout,
     sheet: &[u8],

@@ -72,9 +72,9 @@ pub fn sheet_plan_make(
         b2: b2 as usize,
         t: t as usize,
         rv: rv as usize,
-        vlow: v_low as u64,
+        vlow: u64::from(v_low),
         rh: rh as usize,
-        hlow: h_low as u64,
+        hlow: u64::from(h_low),
     };
     pack_told(&make(given, plan))
 }

@@ -9,7 +9,8 @@ ghost use Rattle.trial.specs.Trial.{pattern_sum, has_sums, fits_few};
 use mend::report::count_digits;
 use sparse::few::few;
 
-// The entry of cell k, where pattern number x has that cell, else 0.
+// The entry of cell k, where pattern number x has that cell, else 0. mend has the same of 64 bits: as one function, a shift and a test would
+// need a trait with its laws, for one line.
 fn picked(x: u32, k: usize, entry: u32) -> u32
     requires { k < 16 }
     ensures { result ≡ pick (bit x k) entry }

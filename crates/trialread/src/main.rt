@@ -3,6 +3,7 @@
 
 use std::io::Print;
 
+// It is sheetread's but for the line that asks how to search, which a function of both would be handed as a closure.
 // At most 65,536 bytes are read, in as many pieces as they come in. A read that fails ends the input, and a write that fails the program.
 fn main(rt: HostRuntime) {
     let mut input = [0u8; 65536];

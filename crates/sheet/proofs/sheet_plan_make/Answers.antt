@@ -7,4 +7,4 @@ pub pack_told-requires : goal.pack_told-requires
 pack_told-requires c = made_range _ _ c.make.ensures
 
 pub returns : goal.returns
-returns c = rw c.pack_told.ensures (made-packed _ _ c.make.ensures)
+returns c = rw c.pack_told.ensures (made-packed _ _ (rw (c.from.ensures, c.from-2.ensures) at c.make.ensures))
