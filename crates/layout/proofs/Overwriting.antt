@@ -3,6 +3,7 @@
 --   low-length            n bytes are n
 --   overwritten-length    the number of bytes is kept
 --   overwritten-append    one list after the other
+--   overwritten-halves    four bytes of a number are two, and two of what is left of it
 --   overwritten-whole     all bytes written over are the bytes written
 --   put-overwritten       a part of the bytes written over as a whole
 --   low-two, low-four     std's low bytes of a number of 16 and of 32 bits
@@ -40,6 +41,13 @@ overwritten-append s o [] ys = ap (λ (k : ℕ). overwritten s k ys) (sym (add-z
 overwritten-append s o (x ∷ xs) ys =
     let e : o + 1 + length xs ≡ o + suc (length xs) = omega arith in
     overwritten-append (set s o x) (o + 1) xs ys ∙ ap (λ (k : ℕ). overwritten (overwritten (set s o x) (o + 1) xs) k ys) e
+
+pub overwritten-halves : (s : List ℕ) (o x : ℕ) → overwritten (overwritten s o (low_bytes 2 x)) (o + 2) (low_bytes 2 (x / 65536)) ≡ overwritten s o (low_bytes 4 x)
+unfolding low_bytes
+overwritten-halves s o x =
+    let e : x / 65536 ≡ x / 256 / 256 = omega arith in
+    ap (λ (y : ℕ). overwritten (overwritten s o (low_bytes 2 x)) (o + 2) (low_bytes 2 y)) e
+    ∙ sym (overwritten-append s o (low_bytes 2 x) (low_bytes 2 (x / 256 / 256)))
 
 as-stores : (s : List ℕ) (o : ℕ) (xs : List ℕ) → overwritten s o xs ≡ sets s o xs
 unfolding overwritten
