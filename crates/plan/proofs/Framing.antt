@@ -2,6 +2,7 @@
 --
 --   sizes-small, small-sizes   checks 2 to 4 and 23 pass exactly where the header's numbers are in range
 --   position-fits   a cell's entry lies in its table
+--   table-room      either table has room in 2,792 words
 --   fields-framed, framed   where checks 2 to 5 and 23 pass of its header, or 1 to 5 and 23 of it, the plan is framed
 --   framed-code     its code, by the header under a name of its own
 --   same-header, same-code   header and code of a view over the plan
@@ -19,6 +20,9 @@ use lib.Dec.{eqb, ltb}
 use lib.ListN.{length}
 use Rattle.finite.proofs.Truth.{or-false}
 use Rattle.plan.specs.declared.header.Header.{Header}
+use Rattle.plan.specs.declared.table.Table.{Table}
+use Rattle.plan.specs.declared.table.Table.TheVariants.{Rows, Columns}
+use Rattle.plan.specs.Table.{entries_of}
 use Rattle.plan.specs.Verdict.{accepted, verdict_if, refusal}
 use Rattle.plan.specs.Header.{header_length, header_of, Small, Framed, columns_start, checks_start, plan_length}
 use Rattle.plan.specs.Bytes.{code_with, code_of}
@@ -122,6 +126,11 @@ framed s e = fields-framed s (else-zero (verdict_if (ltb (length s) header_lengt
 -- the position of a cell's entry lies in its table
 pub position-fits : (i j b n : ℕ) → i < n → 1 ≤ b → i * b + j % b < n * b
 position-fits i j b n l p = digits_lt l (mod-lt j p)
+
+-- either table has room in 2,792 words
+pub table-room : (h : Header) (t : Table) → Small h → entries_of h t ≤ 2792
+table-room h Rows p = omega (arith, p.row_positions)
+table-room h Columns p = p.column_positions
 
 pub framed-code : (s : List ℕ) (h : Header) → Framed s h → code_with s h ≡ code_of s
 unfolding code_of
