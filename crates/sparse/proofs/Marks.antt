@@ -4,7 +4,7 @@
 --   mark-inside, mark-digit                the byte and the digit of a mark
 --   mark-length, mark-here, mark-stays     one mark more: as many bytes, its own number has it, and no other loses it
 --   unmarked                               a number without a mark is none of the sums
---   run_more, run_join                     the places of a run that were tried so far: with one more, and with some after it
+--   run_none, run_more, run_join           the places of a run that were tried so far: none; with one more, and with some after it
 --   run-here, run_past                     one of them passes, or none does
 --   few-hit, two-hit, hit-equal            hit_at where there is one place, and where there may be two; with the same sums told otherwise
 --   hit-one, hit_few, hit-two              what hit_at says, by the single word and by the pairs
@@ -99,6 +99,9 @@ unmarked sums marks x m z = none_any (length sums) (λ d. eqb (word_at sums d) x
     other d l = ne_eqb (word_at sums d) x (λ e. clash (m.mark d l) (ap (has_mark marks) e ∙ z))
 
 module _ (p : ℕ → Bool) (from : ℕ) where
+  pub run_none : (j : ℕ) → from ≤ j → j < from → p j ≡ false
+  run_none j l m = absurd (omega arith)
+
   pub run_more : (k : ℕ) → ((j : ℕ) → from ≤ j → j < k → p j ≡ false) → p k ≡ false → (j : ℕ) → from ≤ j → j < k + 1 → p j ≡ false
   run_more k h e j l m = go (ℕ_discrete j k)
     where

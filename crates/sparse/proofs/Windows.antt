@@ -2,7 +2,7 @@
 --
 --   Begun t f first k count sums marks   of the sets of the first k places no two have the same sum, and the first count sums are theirs
 --   begun-start, begun-next              no place is taken yet; one more is
---   begun-stops                          the answer where a sum is there already
+--   begun-stops, begun-ends              the answer where a sum is there already, and where all places are taken
 --
 -- Assumes nothing.
 use mathlib.Core.Path.{◌≡◌, refl, sym, ap, ap₂, ◌∙◌}
@@ -12,11 +12,12 @@ use Prim.Native.Nat.{ℕ, zero, suc, ◌+◌, ◌*◌, ◌≤◌, ◌<◌}
 use native.Mathlib.Numerals.{add-one}
 use native.Mathlib.Decide.{ℕ_discrete}
 use native.Mathlib.Omega.{arith}
+use Rattle.std.specs.Prelude.{Some}
 use lib.Dec.{eqb}
 use lib.ListN.{length, take}
 use Rattle.finite.proofs.Truth.{and-false, eqb_comm}
 use Rattle.sparse.specs.Sets.{hit_at, set_sum, clear, one_of, SumsOf}
-use Rattle.sparse.specs.Collect.{OnlyZero, Added}
+use Rattle.sparse.specs.Collect.{OnlyZero, Added, Windowed}
 use Rattle.sparse.proofs.Marks.{hit-equal}
 
 module _ (t : ℕ) (f : ℕ → ℕ) (first : ℕ) where
@@ -84,3 +85,7 @@ module _ {t : ℕ} {f : ℕ → ℕ} {first k count : ℕ} {old oldmarks : List 
 
   pub begun-stops : (size : ℕ) → k < size → hit_at t f first (first + k) (one_of (take count old)) ≡ true → clear t f first size ≡ false
   begun-stops size l h = clear-stop t f first size k l (sym asked ∙ h)
+
+pub begun-ends : {t : ℕ} {f : ℕ → ℕ} {first size r : ℕ} {sums marks : List ℕ} → Begun t f first size r sums marks → size ≤ 16
+    → Windowed t f first size (Some r) sums marks
+begun-ends {t} {f} {first} {size} {r} b l = record { free = b.free; sums_of = b.sums_of; some = b.least; most = omega (arith, b.most) }
