@@ -1,6 +1,7 @@
 -- What the first of two windows leaves of a table.
 --
 --   Filled g from k n t       of the n words of t, those from a place on and before k are the values of g
+--   filled_next               one word more
 --   prepared-rows             the words after a window, as the window's basis leaves them, tell of each pair
 --   prepared-columns          so do those after a strip, reduced by the strip
 --   left, row-left            one row of pairs, by what the first window leaves
@@ -40,6 +41,13 @@ use Rattle.accept.proofs.Shift.{window-in}
 pub record Filled (g : ℕ → ℕ) (from k n : ℕ) (t : List ℕ) : Type 0 where
   pub size : length t ≡ n
   pub value : (x : ℕ) → from ≤ x → x < k → get_or t x 0 ≡ g x
+
+pub filled_next : {g : ℕ → ℕ} {from k n : ℕ} {t : List ℕ} → Filled g from k n t → k < n → (v : ℕ) → v ≡ g k → Filled g from (k + 1) n (set t k v)
+filled_next {g} {from} {k} {n} {t} f l v e = record { size = length-set t k v ∙ f.size; value = λ x p u. go x p u (ℕ_discrete x k) }
+  where
+    go : (x : ℕ) → from ≤ x → x < k + 1 → Dec (x ≡ k) → get_or (set t k v) x 0 ≡ g x
+    go x p u (yes q) = rw q (get_or-set_same t k v 0 (omega (arith, f.size)) ∙ e)
+    go x p u (no q) = get_or-set_other t k x v 0 q ∙ f.value x p (omega arith)
 
 -- the rest of the window at b, in a table that has the values
 rest_part : (g : ℕ → ℕ) (size a b : ℕ) {n : ℕ} (t : List ℕ) → a ≤ b → b + size ≤ n → Filled g (a + size) n n t

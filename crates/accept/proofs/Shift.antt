@@ -3,7 +3,7 @@
 --
 --   list-next        the numbers of the pair one entry on
 --   windows-shift    so only how far apart two windows are counts
---   start-from, start-apart, window-in   where windows and pairs begin
+--   start-from, start-to, start-apart, window-in, windows-inside   where windows and pairs begin
 --   powers-row       so one row of pairs is enough
 --
 -- Assumes nothing.
@@ -25,7 +25,7 @@ use Rattle.plan.specs.declared.table.Table.TheVariants.{Rows, Columns}
 use Rattle.std.proofs.Common.{None}
 use Rattle.accept.specs.Pairs.{in_row, first_failing}
 use Rattle.plan.specs.Table.{word_at}
-use Rattle.accept.specs.Windows.{reduction, rest_run, pair_list, pair_free, windows_free, start_of, Windows}
+use Rattle.accept.specs.Windows.{reduction, rest_run, pair_list, pair_free, windows_free, start_of, WindowIn, Windows}
 use Rattle.accept.proofs.Pairing.{first-row}
 
 module _ (p : ℕ) (odd : p % 2 ≡ 1) (f : ℕ → ℕ) (n : ℕ) (steps : (k : ℕ) → suc k < n → f (suc k) ≡ times_z p (f k)) where
@@ -89,6 +89,10 @@ pub start-from : (t : Table) (i : ℕ) → i ≤ start_of t i
 start-from Rows i = omega arith
 start-from Columns i = omega arith
 
+pub start-to : (t : Table) (i : ℕ) → start_of t i ≤ i + 1
+start-to Rows i = omega arith
+start-to Columns i = omega arith
+
 pub start-apart : (t : Table) (i j : ℕ) → start_of t i ≤ j → start_of t 0 ≤ j - i
 start-apart Rows i j l = omega arith
 start-apart Columns i j l = omega arith
@@ -96,6 +100,9 @@ start-apart Columns i j l = omega arith
 -- window j lies in the table
 pub window-in : {n step size count : ℕ} → Windows n step size count → (j : ℕ) → j < count → j * step + size ≤ n
 window-in {n} {step} {size} {count} w j l = omega (arith, w.inside, mul-le-mul_right step l, suc-mul j step)
+
+pub windows-inside : {n step size count : ℕ} → Windows n step size count → (j : ℕ) → j < count → WindowIn n (j * step) size
+windows-inside w j l = record { size_pos = w.size_pos; size_most = w.size_most; inside = window-in w j l; few = w.few }
 
 pub powers-row : (t : Table) (words : List ℕ) (step size count : ℕ) → Windows (length words) step size count → are_powers words ≡ true
     → first_failing (windows_free t (word_at words) step size) (start_of t) count
