@@ -2,6 +2,7 @@
 --
 --   fed-none    where no row is fed, the sums are 0
 --   fed-row     row number k is fed after those from k + 1 on
+--   fed-all     when row number 0 is fed, the sums are those of the run
 --   sheet-sums  the run from 0 to n1 has the two sums of the sheet
 --
 -- Assumes nothing.
@@ -48,6 +49,9 @@ module _ (c : Code) (s : Cells) where
           let b = run.past in
           let e : run.first + (k + 1) ≡ i + 1 = omega arith in
           ap (λ (a : ℕ). run_sum n f a b ⊕ f i) e ∙ xor_comm (run_sum n f (i + 1) b) (f i) ∙ sym (run-sum-before n f i b (omega arith) (omega arith))
+
+  pub fed-all : (run : Run) (r : Sums) → Fed c s run 0 r → RunSums c s run.first run.past r
+  fed-all run r F = let e : run.first + 0 ≡ run.first = omega arith in rw e at F
 
   pub sheet-sums : (r : Sums) → RunSums c s 0 c.n1 r → SheetSums c s r
   sheet-sums r R = two-same _ _ _ _ r (row-whole c s) (column-whole c s) R

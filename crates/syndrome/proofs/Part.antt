@@ -2,7 +2,7 @@
 --
 --   byte-light, byte-first, byte_next    the sum of a byte that is 0, of no cells, and of one cell more
 --   byte-below, line-below               a bound by a power of two
---   dark-times, rest-next                a weight times a digit is the weight where the digit is 1, else 0; the digits that are left
+--   dark-times, times-le, rest-next      a weight times a digit is the weight where the digit is 1, else 0; the digits that are left
 --   line-byte                            the cells of a row before a byte, and then those of the byte
 --   line-equal                           equal weights give equal sums
 --   place-next, index-next               the counters of a walk along a row
@@ -13,7 +13,7 @@
 use mathlib.Core.Path.{◌≡◌, sym, ap, ap₂, ◌∙◌}
 use mathlib.Core.Bool.{Bool}
 use mathlib.Core.List.{List}
-use Prim.Native.Nat.{ℕ, zero, suc, ◌+◌, ◌*◌, ◌/◌, ◌%◌, ◌^◌, ◌<◌}
+use Prim.Native.Nat.{ℕ, zero, suc, ◌+◌, ◌*◌, ◌/◌, ◌%◌, ◌^◌, ◌≤◌, ◌<◌}
 use native.Mathlib.Nat.{mod-lt, mod-add-mod, div-one, add-zero, zero-lt-suc, add-mul, one-mul, mul-one, mul-zero, pow-succ', mul_comm, div-div-eq-div-mul}
 use native.Mathlib.Numerals.{add-one}
 use native.Mathlib.Omega.{arith}
@@ -38,6 +38,14 @@ dark-times v x t = go (x / 2 ^ t % 2) (mod-lt (x / 2 ^ t) (zero-lt-suc 1))
     go : (d : ℕ) → d < 2 → v * d ≡ pick (eqb d 1) v
     go zero l = mul-zero v
     go (suc zero) l = mul-one v
+    go (suc (suc d)) l = absurd (omega arith)
+
+pub times-le : (v x : ℕ) → v * (x % 2) ≤ v
+times-le v x = go (x % 2) (mod-lt x (zero-lt-suc 1))
+  where
+    go : (d : ℕ) → d < 2 → v * d ≤ v
+    go zero l = let e : v * 0 ≡ 0 = mul-zero v in omega arith
+    go (suc zero) l = let e : v * 1 ≡ v = mul-one v in omega arith
     go (suc (suc d)) l = absurd (omega arith)
 
 module _ (f : ℕ → ℕ) (x j : ℕ) where
