@@ -1,18 +1,22 @@
 -- A run in bytes:
 --
 --   put-more, take_more       one cell more
+--   put-length, take-length   the number of bytes is kept
 --   reaches                   the cells and bits of a cursor's run stand in the buffers
 --
 -- Assumes nothing.
-use mathlib.Core.Path.{◌≡◌, sym, ap, ◌∙◌}
+use mathlib.Core.Path.{◌≡◌, refl, sym, ap, ◌∙◌}
 use mathlib.Core.Bool.{Bool}
 use mathlib.Core.List.{List}
-use Prim.Native.Nat.{ℕ, ◌+◌, ◌<◌}
+use Prim.Native.Nat.{ℕ, zero, suc, ◌+◌, ◌<◌}
 use native.Mathlib.Numerals.{add-one}
 use native.Mathlib.Omega.{arith}
+use lib.ListN.{length}
 use Rattle.layout.specs.Cells.{row_bytes, cell_of, turned_if}
 use Rattle.layout.specs.Stored.{size_in, cell_in, turned_in}
 use Rattle.layout.specs.declared.stored.Layout.{Layout}
+use Rattle.layout.proofs.Layouts.{in-turned-length}
+use Rattle.layout.proofs.Turned.{turned-if-length}
 use Rattle.boxcode.specs.Code.{Code, Formed}
 use Rattle.boxcode.specs.Check.{data_size}
 use Rattle.boxcode.proofs.Check.{sheet-cells}
@@ -34,6 +38,18 @@ module _ (lay : Layout) (k n1 n2 : ℕ) (bits sheet : List ℕ) (r : Cursor) whe
       → old ≡ take_run j lay n1 n2 sheet k bits r → new ≡ turned_if dark k old 0 b → new ≡ take_run (j + 1) lay n1 n2 sheet k bits r
   unfolding take_run
   take_more j b dark old new eb ed eo e = e ∙ rw (add-one j, eo, ed, eb)
+
+  pub put-length : (j : ℕ) → length (put_run j k bits lay n1 n2 sheet r) ≡ length sheet
+  unfolding put_run
+  put-length zero = refl
+  put-length (suc j) =
+      in-turned-length (cell_of k bits 0 (bit_at r j)) lay n1 n2 (put_run j k bits lay n1 n2 sheet r) r.row (r.column + j) ∙ put-length j
+
+  pub take-length : (j : ℕ) → length (take_run j lay n1 n2 sheet k bits r) ≡ length bits
+  unfolding take_run
+  take-length zero = refl
+  take-length (suc j) =
+      turned-if-length (cell_in lay n1 n2 sheet r.row (r.column + j)) k (take_run j lay n1 n2 sheet k bits r) 0 (bit_at r j) ∙ take-length j
 
 pub reaches : (lay : Layout) (c : Code) (F : Formed c) (r : Cursor) → At c r → r.row < c.n1 → (k bits n2 sheet len : ℕ) → k ≡ data_size c
     → bits ≡ row_bytes (data_size c) → n2 ≡ c.n2 → sheet ≡ size_in lay c.n1 c.n2 → len ≡ run_length c.n2 r → Reaches k bits lay c.n1 n2 sheet len r
