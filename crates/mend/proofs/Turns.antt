@@ -1,14 +1,15 @@
 -- Small laws that a turn of a loop, or its start, rests on.
 --
---   bit-value, one-true, digit-most   a digit as the number that the code has
+--   bit-value, one-true, not-one, digit-most   a digit as the number that the code has
 --   ones-digits           the digits that are 1, counted
 --   times-next            one multiple more
 --   mod-start, mod-next   remainders counted up from that of a number
 --   sum-start, sum_more   one summand more, as the code's exclusive-or has it
+--   entry-stored          one entry more of a table in the first words of an array
 --   digits_from, digits-start, -more, -all, -below   a number by its digits, from the highest on
 --   first_found, past-here, past-before   lines tried in turn, from the first on and from the last back
 --   small-burst, box-size   the sizes of a burst: at most 16 places
---   part-size               those of a smaller rectangle in it
+--   part-size, PartPlace, part-place   those of a smaller rectangle in it, and the place of its digit k
 --
 -- Assumes nothing.
 use mathlib.Core.Path.{◌≡◌, refl, sym, ap, ap₂, ◌∙◌}
@@ -38,6 +39,7 @@ use Rattle.plan.specs.declared.header.Header.{Header}
 use Rattle.plan.specs.Header.{Small}
 use Rattle.mend.specs.Strip.{BurstSize}
 use Rattle.mend.specs.Report.{Part}
+use Rattle.boxcode.proofs.Report.{box-place}
 
 -- ---- digits
 
@@ -53,6 +55,10 @@ bit-value x k = go (x / 2 ^ k % 2) (mod-lt (x / 2 ^ k) (zero-lt-suc 1))
 pub one-true : (b : Bool) (n : ℕ) → n ≡ cond b 1 0 → n ≡ 1 → b ≡ true
 one-true true n e l = refl
 one-true false n e l = absurd (omega arith)
+
+pub not-one : (b : Bool) (n : ℕ) → n ≡ cond b 1 0 → (n ≡ 1 → ⊥) → b ≡ false
+not-one true n e l = absurd (l e)
+not-one false n e l = refl
 
 pub digit-most : (b : Bool) (n : ℕ) → n ≡ cond b 1 0 → n ≤ 1
 digit-most true n e = omega arith
@@ -92,6 +98,16 @@ sum-start f = sym (sum-none f)
 
 pub sum_more : (n : ℕ) (f : ℕ → ℕ) (s v : ℕ) → s ≡ xor_sum n f → v ≡ f n → bit_xor s v ≡ xor_sum (n + 1) f
 sum_more n f s v e g = xor_is s v ∙ ap₂ ◌⊕◌ e g ∙ sym (ap (λ (m : ℕ). xor_sum m f) (add-one n) ∙ sum-next n f)
+
+-- ---- tables
+
+pub entry-stored : (f : ℕ → ℕ) (words : List ℕ) (k x : ℕ) → k < 16 → length words ≡ 16 → ((j : ℕ) → j < k → get_or words j 0 ≡ f j) → x ≡ f k
+    → (length (set words k x) ≡ 16) × ((j : ℕ) → j < k + 1 → get_or (set words k x) j 0 ≡ f j)
+entry-stored f words k x l n h e = (length-set words k x ∙ n, λ j lj. at j lj (ℕ_discrete j k))
+  where
+    at : (j : ℕ) → j < k + 1 → Dec (j ≡ k) → get_or (set words k x) j 0 ≡ f j
+    at j lj (yes q) = rw q (get_or-set_same words k x 0 (omega arith) ∙ e)
+    at j lj (no q) = get_or-set_other words k j x 0 q ∙ h j (omega arith)
 
 -- ---- numbers by digits
 
@@ -154,3 +170,15 @@ part-size {b2} {row} {column} {height} {width} p =
     let m : height ≤ 4 = omega (arith, p.rows_in) in
     let n : width ≤ 4 = omega (arith, p.columns_in, p.columns_most) in
     mul-le-mul m n
+
+pub record PartPlace (b2 row column width k : ℕ) : Type 0 where
+  pub wide : 0 < width
+  pub row_most : row + k / width ≤ 3
+  pub start_most : (row + k / width) * b2 ≤ 12
+  pub column_most : column + k % width ≤ 3
+
+pub part-place : {b2 row column height width : ℕ} → Part b2 row column height width → (k : ℕ) → k < height * width → PartPlace b2 row column width k
+part-place {b2} {row} {column} {height} {width} p k l =
+    let q = box-place height width k l in
+    let a : row + k / width ≤ 3 = omega (arith, p.rows_in) in
+    record { wide = omega arith; row_most = a; start_most = mul-le-mul a p.columns_most; column_most = omega (arith, p.columns_in, p.columns_most) }

@@ -1,7 +1,7 @@
 -- Patterns of a window, and the fit by its V entries.
 --
 --   rows_fit          the positions of a window are positions of the table
---   gathered          an array with the window's entries
+--   gathered-any, gathered   an array with the window's entries: any; and their list, filled up with zeros
 --   in_window          the choice m among a window's entries, as positions of the row table
 --   in_window-holds, window-place, window-sum   it is in the window, and has their sum
 --   pattern-sum       a pattern in the window has the sum of its choice
@@ -21,8 +21,8 @@ use Rattle.std.specs.Prelude.{Option, Some, None}
 use lib.Dec.{eqb, ltb}
 use lib.ListN.{length, get_or, take, drop, replicate}
 use lib.Pow.{pow_mono}
-use lib.Seq.{ext_get_or, take-append_seam}
-use Rattle.std.proofs.lemmas.List.{length-append, length-drop}
+use lib.Seq.{ext_get_or, length-take-le, get_or-take}
+use Rattle.std.proofs.lemmas.List.{length-append, length-drop, get_or_append_left}
 use Rattle.gf2.specs.Xor.{pick}
 use Rattle.gf2.specs.Sum.{chosen_sum}
 use Rattle.gf2.specs.Independence.{Independent}
@@ -57,20 +57,25 @@ in_window c i m k = within (i * c.b2) (c.b1 * c.b2) k && m (k - i * c.b2)
 pub rows_fit : (i b n w : ℕ) → i + b ≤ n → i * w + b * w ≤ n * w
 rows_fit i b n w l = let e : (i + b) * w ≡ i * w + b * w = add-mul i b w in let m : (i + b) * w ≤ n * w = mul-le-mul_right w l in omega arith
 
+pub gathered-any : (c : Code) (i : ℕ) (words : List ℕ) → c.b1 * c.b2 ≤ 16 → length words ≡ 16
+    → ((k : ℕ) → k < c.b1 * c.b2 → get_or words k 0 ≡ entry_at c i k) → Gathered c i words
+unfolding window_entries
+gathered-any c i words few size at = record {
+  size = size;
+  entries =
+      let n = c.b1 * c.b2 in
+      let l : length (take n words) ≡ n = length-take-le n words (omega arith) in
+      ext_get_or 0 (take n words) (listed n (λ k. true) (entry_at c i)) (l ∙ sym (listed-length n (entry_at c i)))
+      (λ k lk. let u : k < n = omega arith in get_or-take n words k 0 u ∙ at k u ∙ sym (listed_at n (entry_at c i) k u));
+}
+
 pub gathered : (c : Code) (i : ℕ) (items : List ℕ) → c.b1 * c.b2 ≤ 16 → length items ≡ c.b1 * c.b2
     → ((k : ℕ) → k < c.b1 * c.b2 → get_or items k 0 ≡ entry_at c i k) → Gathered c i (items ++ drop (c.b1 * c.b2) (replicate 16 0))
-unfolding window_entries
 gathered c i items most size at =
-    let n = c.b1 * c.b2 in
     let zeros : List ℕ = replicate 16 0 in
-    let rest : List ℕ = drop n zeros in
-    record {
-      size = length-append items rest ∙ omega (arith, size, length-drop n zeros);
-      entries =
-          ap (λ (m : ℕ). take m (items ++ rest)) (sym size) ∙ take-append_seam items rest
-          ∙ ext_get_or 0 items (listed n (λ k. true) (entry_at c i)) (size ∙ sym (listed-length n (entry_at c i)))
-          (λ k lk. let u : k < n = omega arith in at k u ∙ sym (listed_at n (entry_at c i) k u));
-    }
+    let rest : List ℕ = drop (c.b1 * c.b2) zeros in
+    gathered-any c i (items ++ rest) most (length-append items rest ∙ omega (arith, size, length-drop (c.b1 * c.b2) zeros))
+    (λ k l. get_or_append_left items rest 0 k (omega arith) ∙ at k l)
 
 -- a fit of few words that begin an array is one of few entries
 pub few_words : (c : Code) (i t v : ℕ) (words : List ℕ) → Gathered c i words → (r : Option ℕ)
