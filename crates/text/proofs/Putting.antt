@@ -5,7 +5,7 @@
 --   put-length     a buffer keeps its length
 --   put_front      text at the start of a buffer with room for it is what stands there
 --   put-printed    so it is printed there
---   put-none, put-copied   nothing is written; a whole text is copied to the start
+--   put-none, put-take, put-copied   nothing is written; one byte more of a list that is copied; a whole text is copied to the start
 --   decimal-one, decimal-more   a number of one digit, and one of more: the last digit after all the others
 --   decimal-most   a number below 10 to the power k + 1 has at most k + 1 digits
 --   each_more, each_put   one text more; the same, written after those before it
@@ -58,6 +58,10 @@ put-printed {a} {b} {r} {xs} {ys} p h e =
 
 pub put-none : (a : List ℕ) (n : ℕ) → Put a n [] a n
 put-none a n = record { bytes = refl; past = omega arith }
+
+-- one byte more of a list that is copied
+pub put-take : (a b s : List ℕ) {i : ℕ} → i < length s → Put a 0 (take i s) b i → Put a 0 (take (i + 1) s) (set b i (get_or s i 0)) (i + 1)
+put-take a b s {i} h p = rw (add-one, take-suc s i 0) (put-more p (record { bytes = refl; past = omega arith }))
 
 -- a whole text, copied to the start
 pub put-copied : (a xs : List ℕ) → length xs ≤ length a → Put a 0 xs (xs ++ drop (length xs) a) (length xs)
