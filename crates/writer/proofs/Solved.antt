@@ -2,7 +2,9 @@
 --
 --   joint-value              the joint sum of a sheet, from its two sums
 --   few-joints, free-joints  the joint entries of the check cells are at most 64, and independent
---   combination-makes        under an accepted plan there is a solution for the joint entries of the check cells, and it makes the target
+--   combination-makes        under an accepted plan what the solution for the joint entries of the check cells holds, or 0 where it is none, makes
+--                            the target
+--   never-outside            under an accepted plan there is one
 --
 -- Assumes nothing.
 use mathlib.Core.Path.{◌≡◌, sym, ap, ap₂, ◌∙◌}
@@ -15,7 +17,7 @@ use Rattle.finite.specs.Search.{bit}
 use Rattle.gf2.specs.Sum.{chosen_sum}
 use Rattle.gf2.specs.Vectors.{spans, free_from}
 use Rattle.gf2.specs.Solver.{combination, solution}
-use Rattle.std.specs.Prelude.{Option, Some, unwrap_or}
+use Rattle.std.specs.Prelude.{Option, Some, None, unwrap_or}
 use Rattle.gf2.proofs.Spans.{spans-turned}
 use Rattle.gf2.proofs.Vectors.{free-listed, spanned-listed, listed-length}
 use Rattle.gf2.proofs.Independence.{independent-free}
@@ -73,3 +75,10 @@ module _ (c : Code) (F : Formed c) (K : Conditions c) where
 
     pub combination-makes : (r : Option ℕ) → r ≡ solution (joints_of c) target → chosen_sum (c.rv + c.rh) (bit (unwrap_or r 0)) (check_joint c) ≡ target
     combination-makes r e = let w = found in rw (e ∙ w.1) w.2
+
+    pub never-outside : solution (joints_of c) target ≡ None → ⊥
+    never-outside e =
+        let w = found in
+        let p = w.1 in
+        let z : ◌≡◌ {A = ℕ} 0 1 = cc in
+        omega arith
