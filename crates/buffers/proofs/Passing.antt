@@ -1,7 +1,9 @@
 -- The checks of a call pass exactly where the plan is accepted and the buffers are right.
 --
+--   stops, goes_on           the answer of a sequence of checks: the first part refuses; it passes, and the rest answers
 --   checked-passes, checked-stops, checked-goes-on   checks that leave the column table unpacked: they pass; the first part refuses; it passes, and
 --                            the rest answers
+--   checked-else             the same, where both parts are asked at once
 --   size-most, bytes_most    there are at most 512 × 698 data bits, and 88 bytes a row
 --   length-right, right-length, unused-right, right-unused   each check passes exactly where its buffer is right
 --   SheetFits                what holds where checks 1 to 11 pass
@@ -19,7 +21,7 @@
 --   MayReadTwo, two-zero, twos-pass     the same for the checks before reading two scans
 --
 -- Assumes nothing.
-use mathlib.Core.Path.{◌≡◌, refl, sym, ap, ◌∙◌}
+use mathlib.Core.Path.{◌≡◌, refl, sym, ap, ap₂, ◌∙◌}
 use mathlib.Core.Bool.{not}
 use mathlib.Core.List.{List}
 use Prim.Native.Nat.{ℕ, suc, ◌*◌, ◌≤◌}
@@ -43,7 +45,7 @@ use Rattle.plan.specs.declared.verdict.Verdict.{Verdict}
 use Rattle.plan.specs.declared.verdict.Refusal.{Refusal}
 use Rattle.plan.specs.Verdict.{accepted, ◌or_else◌, refusal_of, told}
 use Rattle.plan.specs.Bytes.{code_of}
-use Rattle.plan.proofs.Sequence.{else-second, else-zero, if-zero, passed, refused, stops, goes-on}
+use Rattle.plan.proofs.Sequence.{else-first, else-second, else-zero, if-zero, same-zero, passed, refused, hands-on, goes-on}
 use Rattle.accept.specs.Verdict.{plan_verdict, Accepted}
 use Rattle.accept.specs.Checked.{Checked}
 use Rattle.accept.proofs.Acceptance.{accepted-plan, plan-accepted}
@@ -51,15 +53,29 @@ use Rattle.buffers.specs.Buffers.{length_verdict, unused_verdict, sheet_checks, 
 use Rattle.buffers.specs.Buffers.{transpose_checks}
 use Rattle.buffers.specs.Buffers.{scan_lengths, scans_unused, scans_checks, read_two_checks}
 
+pub stops : (u v : Verdict) {x : Verdict} → x ≡ u → (x.number ≡ 0 → ⊥) → x ≡ u or_else v
+stops u v e h = e ∙ sym (else-first u v (λ z. h (same-zero (sym e) z)))
+
+pub goes_on : (u v : Verdict) {x : Verdict} → u.number ≡ 0 → x ≡ v → x ≡ u or_else v
+goes_on u v p e = e ∙ sym (else-second u v p)
+
+-- the same of checks that leave the column table unpacked
 pub checked-passes : {plan words : List ℕ} {u : Verdict} → Checked plan u accepted words → u.number ≡ 0
 checked-passes C = passed C.verdict
 
 pub checked-stops : {A : Type 0} {plan words : List ℕ} {u : Verdict} (v : Verdict) (r : Result A Refusal) (e : Refusal)
     → IsErrAnd r (λ y. y ≡ e) → Checked plan u (refusal_of e) words → Checked plan (u or_else v) (told r) words
-checked-stops v r e h C = record { verdict = stops r e v h C.verdict; unpacked = λ z. absurd (refused r e h z) }
+checked-stops {u = u} v r e h C = record { verdict = stops u v (hands-on r e h C.verdict) (refused r e h); unpacked = λ z. absurd (refused r e h z) }
 
 pub checked-goes-on : {plan words : List ℕ} {u v x : Verdict} → Checked plan u accepted words → x ≡ v → Checked plan (u or_else v) x words
 checked-goes-on C f = record { verdict = goes-on C.verdict f; unpacked = λ _. C.unpacked refl }
+
+pub checked-else : {plan words : List ℕ} (u v : Verdict) {f x r : Verdict} → Checked plan u f words → x ≡ v → r ≡ f or_else x
+    → Checked plan (u or_else v) r words
+checked-else u v {f} {x} C e o = record {
+  verdict = o ∙ ap₂ ◌or_else◌ C.verdict e;
+  unpacked = λ z. C.unpacked (else-zero f x (same-zero o z)).0;
+}
 
 module _ (plan : List ℕ) where
   pub size-most : Formed (code_of plan) → data_size (code_of plan) ≤ 357376
