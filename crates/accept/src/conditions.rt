@@ -9,7 +9,7 @@ ghost use Rattle.accept.specs.Pairs.{first_failing, pair_verdict};
 ghost use Rattle.accept.specs.Windows.{table_pass, start_of, Windows, Entries32, table_verdict, condition_number, condition_of};
 
 use crate::few::few_failing;
-use crate::pairs::pair_verdict;
+use crate::pairs::pair_refusal;
 use crate::search::first_failing;
 use plan::header::Header;
 use plan::table::{Table, WORDS};
@@ -53,7 +53,7 @@ fn lines_verdict(
 {
     let n = lines * step;
     let count = lines - burst + 1;
-    pair_verdict(
+    pair_refusal(
         t,
         failing(
             t,

@@ -1,12 +1,12 @@
 // The pattern of few entries of a window that makes the V sum, where bursts have few cells.
-ghost use Rattle.std.specs.Prelude.{◌≡◌, ◌≢◌, ◌≤◌, ◌<◌, length, slice_index, MatchOption, EachIndex};
+ghost use Rattle.std.specs.Prelude.{ℕ, ◌≡◌, ◌≢◌, ◌≤◌, ◌<◌, length, slice_index, MatchOption, EachIndex};
 ghost use Rattle.plan.specs.Table.{word_at};
 ghost use Rattle.mend.specs.Window.{PairFit, FewFit};
 
 // The place of the first of the words that is v, or that none is.
 fn first_equal(words: &[u64], v: u64) -> Option<usize>
     ensures { MatchOption result (EachIndex words.now (λ k. slice_index words.now k ≢ v))
-        (λ k. (k < length words.now) × (slice_index words.now k ≡ v)) }
+        (λ k. (k < length words.now) × (slice_index words.now k ≡ v) × ((j : ℕ) → j < k → slice_index words.now j ≢ v)) }
 {
     words.iter().position(|w| *w == v)
 }

@@ -86,6 +86,7 @@ fn fields_verdict(size: usize, h: Header) -> Result<(), Refusal>
 pub fn header_verdict<'a>(plan: &'a [u8]) -> Result<View<'a>, Refusal>
     ensures told { told result ≡ header_verdict plan.now }
     ensures view { IfOk result (λ v. v.plan.now ≡ plan.now) }
+    ensures lent { IfOk result (λ v. v.plan ≡ plan.entry) }
 {
     if plan.len() < LENGTH {
         return Err(Refusal::ShortPlan);
@@ -176,6 +177,7 @@ pub fn list_verdict<'a>(view: View<'a>) -> Result<(), Refusal>
 pub fn form_verdict<'a>(plan: &'a [u8]) -> Result<View<'a>, Refusal>
     ensures told { told result ≡ form_verdict plan.now }
     ensures view { IfOk result (λ v. v.plan.now ≡ plan.now) }
+    ensures lent { IfOk result (λ v. v.plan ≡ plan.entry) }
 {
     let view = header_verdict(plan)?;
     entries_verdict(view)?;

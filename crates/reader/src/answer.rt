@@ -1,5 +1,7 @@
 // The answer of the reader, as it is told.
 ghost use Rattle.std.specs.Prelude.{◌≡◌};
+ghost use Rattle.boxcode.specs.Reader.{no_report};
+ghost use Rattle.mend.specs.Report.{report_as};
 ghost use Rattle.reader.specs.Read.{told_read};
 
 use mend::report::Report;
@@ -10,6 +12,23 @@ use plan::verdict::{Refusal, Verdict};
 pub struct Answer {
     pub verdict: Verdict,
     pub report: Report,
+}
+
+// A refusal.
+pub fn refused_as(verdict: Verdict) -> Answer
+    ensures { result ≡ record { verdict = verdict; report = report_as no_report } }
+{
+    Answer {
+        verdict,
+        report: Report {
+            cells: 0,
+            top: 0,
+            left: 0,
+            height: 0,
+            width: 0,
+            pattern: 0,
+        },
+    }
 }
 
 // What is told of a read: its report, or why there is none.
@@ -25,16 +44,6 @@ pub fn tell(read: Result<Report, Refusal>) -> Answer
             },
             report,
         },
-        Err(refusal) => Answer {
-            verdict: refusal.told(),
-            report: Report {
-                cells: 0,
-                top: 0,
-                left: 0,
-                height: 0,
-                width: 0,
-                pattern: 0,
-            },
-        },
+        Err(refusal) => refused_as(refusal.told()),
     }
 }

@@ -28,7 +28,7 @@ pub fn marked(marks: &[u8], x: u64) -> bool
 }
 
 // Among these sums. All are looked at: without a way out of the loop the compiler takes several at a time. `contains` leaves at the first
-// that is equal, and took 1.25 times as long.
+// that is equal, and took 1.3 times as long.
 pub fn among(sums: &[u64], x: u64) -> bool
     ensures { result ≡ one_of sums.now x }
 {

@@ -31,7 +31,7 @@ pub returns : goal.returns
 returns c =
     let a = c.args in
     let n = a.lines * a.step in
-    c.pair_verdict.ensures
+    c.pair_refusal.ensures
     ∙ ap (pair_verdict (condition_number a.t))
     (c.failing.ensures
     ∙ ap (λ (x : ℕ). first_failing (table_pass a.t (word_at (take n a.words.now)) a.most x a.step (a.burst * a.step)) (start_of a.t)
