@@ -113,16 +113,16 @@ pub fn sweep(words: &[u64], v: u64) -> u64
     left
 }
 
-// The same by the first count words of a basis, two at a time: where count is odd, by one word more.
+// The same by the first count words of a basis, two at a time: where count is odd, by one word more. By place: over the pairs of
+// `as_chunks` the compiler's loop is longer, and the test of a plan took 1.3 times as long.
 fn sweep_pairs(words: &[u64; 64], count: usize, v: u64) -> u64
     requires { count < 64 }
     ensures { result ≡ swept (take (even_up count) words.now) v }
 {
-    let (pairs, _) = words.as_chunks::<2>();
     let mut left = v;
-    for [one, next] in &pairs[..count.div_ceil(2)] {
-        left = left.min(left ^ *one);
-        left = left.min(left ^ *next);
+    for i in 0..(count + 1) / 2 {
+        left = left.min(left ^ words[i * 2]);
+        left = left.min(left ^ words[i * 2 + 1]);
     }
     left
 }

@@ -1,16 +1,21 @@
-use mathlib.Core.Path.{refl}
+use mathlib.Core.Path.{◌≡◌, refl}
+use Prim.Native.Nat.{◌+◌, ◌*◌}
+use native.Mathlib.Omega.{arith}
 use Rattle.gf2.specs.Xor.{◌⊕◌}
 use Rattle.gf2.specs.Swept.{swept}
-use Rattle.gf2.proofs.Swept.{swept-pair}
+use Rattle.gf2.proofs.Swept.{swept-more}
 use Rattle.gf2.proofs.sweep_pairs.Goals as goal
 
-pub loop-one-init : goal.loop-one-init
+pub loop-i-init : goal.loop-i-init
 unfolding swept
-loop-one-init c = refl
+loop-i-init c = refl
 
-pub loop-one-preserved : goal.loop-one-preserved
+pub loop-i-preserved : goal.loop-i-preserved
 unfolding ◌⊕◌
-loop-one-preserved c =
-    let l = c.loop-one in
-    swept-pair c.args.words.now _ _ l.one-index c.args.v c.as_chunks.ensures.front c.as_chunks.ensures.front_len c.loop-one-test.true l.invariant
-    c.min-left.ensures c.min-left-in-loop-one.ensures
+loop-i-preserved c =
+    let l = c.loop-i in
+    let a = c.args in
+    let e = swept-more a.words.now (l.i * 2) a.v l.invariant c.min-left.ensures in
+    let f = swept-more a.words.now (l.i * 2 + 1) a.v e c.min-left-in-loop-i.ensures in
+    let n : l.i * 2 + 1 + 1 ≡ (l.i + 1) * 2 = omega arith in
+    rw n at f

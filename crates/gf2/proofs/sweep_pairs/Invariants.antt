@@ -5,5 +5,5 @@ use lib.ListN.{take}
 use Rattle.gf2.specs.Swept.{swept}
 use Rattle.gf2.proofs.sweep_pairs.Given as goal
 
-abbrev pub invariant-loop-one : goal.invariant-loop-one
-invariant-loop-one l = l.left ≡ swept (take (l.one-index * 2) l.words) l.v
+abbrev pub invariant-loop-i : goal.invariant-loop-i
+invariant-loop-i l = l.left ≡ swept (take (l.i * 2) l.words) l.v
