@@ -5,7 +5,7 @@
 --   swept-xor       so is `swept`
 --   swept-append    by one word more
 --   swept-more      by one word more of the first ones
---   swept-pair      by the two words of pair i, as the code has pairs
+--   swept-pair      by the two words of pair i, as `as_chunks` has pairs
 --   swept-next, swept-end    by the words from place i on, as a loop goes
 --   sweep-none      no words take off what no vectors span
 --   sweep-more      a vector as the words leave it is the word that is missing for it

@@ -113,8 +113,8 @@ pub fn sweep(words: &[u64], v: u64) -> u64
     left
 }
 
-// The same by the first count words of a basis, two at a time: where count is odd, by one word more. By place: over the pairs of
-// `as_chunks` the compiler's loop is longer, and the test of a plan took 1.3 times as long.
+// The same by the first count words of a basis, two at a time: where count is odd, by one word more. By place: the compiler's loop over
+// the pairs of `as_chunks` is longer, and the test of a plan runs 6 % more instructions.
 fn sweep_pairs(words: &[u64; 64], count: usize, v: u64) -> u64
     requires { count < 64 }
     ensures { result ≡ swept (take (even_up count) words.now) v }
