@@ -1,13 +1,20 @@
 // The plan through a small view over its bytes: the bytes, and the numbers of its header. Only here is a place in a plan's tables computed.
-ghost use Rattle.std.specs.Prelude.{◌≡◌, ◌+◌, ◌*◌, ◌<◌};
+ghost use Rattle.std.specs.Prelude.{◌≡◌, ◌+◌, ◌*◌, ◌≤◌, ◌<◌, length};
 ghost use Rattle.layout.specs.Number.{Number32};
 ghost use Rattle.boxcode.specs.Code.{row_weight, column_weight};
-ghost use Rattle.plan.specs.Header.{Framed, header_length, columns_start};
+ghost use Rattle.plan.specs.Header.{Framed, header_length, header_of, columns_start};
 ghost use Rattle.plan.specs.Accepted.{AcceptedWith};
 ghost use Rattle.plan.specs.Bytes.{code_with, Weight, CheckCell};
 
-use crate::header::Header;
+use crate::header::{Header, read};
 use layout::number::{u16_at, u32_at};
+
+// A plan of which nothing is known but that it has a header: its bytes, and the numbers of the header.
+#[derive(Clone, Copy)]
+pub struct Unchecked<'a> {
+    pub plan: &'a [u8],
+    pub header: Header,
+}
 
 // A plan that passed checks 1 to 5 and 23: its bytes, and its header.
 #[derive(Clone, Copy)]
@@ -29,6 +36,17 @@ pub struct Accepted<'a> {
 pub struct Cell {
     pub row: usize,
     pub column: usize,
+}
+
+// The bytes of a plan that has a header, and the header's numbers.
+pub fn over<'a>(plan: &'a [u8]) -> Unchecked<'a>
+    requires { header_length ≤ length plan.now }
+    ensures { (result.plan ≡ plan.entry) × (result.header ≡ header_of plan.now) }
+{
+    Unchecked {
+        plan,
+        header: read(plan),
+    }
 }
 
 impl<'a> View<'a> {
